@@ -4,7 +4,7 @@ mod Cuts
 mod Said
 mod NodeLines
 mod Sets
-mod Stacks
+pub mod Stacks
 mod Texts
 mod AfterLines
 mod Lines

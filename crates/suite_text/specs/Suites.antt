@@ -1,10 +1,11 @@
 -- The suite of a text, line by line, or its first fault.
-use Rattle.std.specs.Prelude.{ℕ, ◌+◌, ◌==◌, ◌&&◌, nat_lt, Bool, List, [], ◌∷◌, length, if◌then◌else◌, Result, Ok, Err}
+use Rattle.std.specs.Prelude.{ℕ, ◌+◌, ◌==◌, ◌&&◌, nat_lt, Bool, List, [], ◌∷◌, length, if◌then◌else◌, Option, Result, Ok, Err}
 use Rattle.std.specs.Str.Lines.{lines}
 use Rattle.suite_words.specs.declared.suite.fault.SuiteFault.{SuiteFault}
 use Rattle.suite_words.specs.declared.suite.fault.SuiteFault.TheVariants.{TooLarge}
 use Rattle.suite_text.specs.declared.suite.Suite.{Suite}
 use Rattle.unique_id.specs.Answers.{◌>>=◌}
+use Rattle.suite_words.specs.Limits.{node_limit, byte_limit}
 use Rattle.suite_words.specs.Reading.Lines.{says_nothing, first_word, after_word, level_of}
 use Rattle.suite_words.specs.Reading.After.{is_after}
 use Rattle.suite_text.specs.Reading.After.{with_after_line}
@@ -32,7 +33,7 @@ with_declaration number read level line = if is_after line then with_after_line 
 
 -- with other properties
 abbrev pub with_properties : LinesRead → Parameters → LinesRead
-with_properties read properties = record { tree = read.tree; path = read.path; scripts = read.scripts; afters = read.afters; properties = properties }
+with_properties read properties = record { limit = read.limit; tree = read.tree; path = read.path; scripts = read.scripts; afters = read.afters; properties = properties }
 
 -- whether a line is a property's: it stands before the first engine
 abbrev pub is_property_in : LinesRead → List ℕ → Bool
@@ -59,13 +60,13 @@ abbrev pub suite_from : ℕ → LinesRead → List (List ℕ) → Result LinesRe
 suite_from number read [] = Ok read
 suite_from number read (line ∷ more) = with_line number read line >>= (λ next. suite_from (number + 1) next more)
 
--- the suite of all lines of a text
-abbrev pub suite_of_lines : List (List ℕ) → Result SuiteParts SuiteFault
-suite_of_lines all = suite_from 1 no_lines all >>= (λ read. Ok (parts_of read))
+-- the suite of all lines of a text, where there may be so many nodes besides the plan
+abbrev pub suite_of_lines : ℕ → List (List ℕ) → Result SuiteParts SuiteFault
+suite_of_lines limit all = suite_from 1 (no_lines limit) all >>= (λ read. Ok (parts_of read))
 
--- the suite of a text
-abbrev pub suite_of : List ℕ → Result SuiteParts SuiteFault
-suite_of text = if nat_lt 1048576 (length text) then Err TooLarge else suite_of_lines (lines text)
+-- the suite of a text, where so many nodes were asked for
+abbrev pub suite_of : Option ℕ → List ℕ → Result SuiteParts SuiteFault
+suite_of most text = if nat_lt (byte_limit most) (length text) then Err TooLarge else suite_of_lines (node_limit most) (lines text)
 
 -- a suite, without where it lies in memory
 abbrev pub suite_parts : Suite → SuiteParts

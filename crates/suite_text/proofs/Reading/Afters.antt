@@ -1,5 +1,5 @@
 -- What holds after each line holds where a class was given its after-body.
-use Rattle.std.proofs.Common.{◌≡◌, ℕ, zero, suc, ◌&&◌, Bool, true, List, [], ◌∷◌, ◌++◌, Option, Some, None, option_to_list, if◌then◌else◌, refl, ap, sym, ◌∙◌, subst}
+use Rattle.std.proofs.Common.{◌≡◌, ℕ, zero, suc, ◌+◌, ◌≤◌, ◌&&◌, Bool, true, List, [], ◌∷◌, ◌++◌, Option, Some, None, option_to_list, if◌then◌else◌, refl, ap, sym, ◌∙◌, subst}
 use Rattle.std.specs.Prelude.{slice_get}
 use Rattle.std.specs.Option.{is_none}
 use Rattle.std.specs.List.Sorted.{IsPermutation}
@@ -8,7 +8,7 @@ use Rattle.std.proofs.lemmas.List.Sorted.{IsPermutation-refl, IsPermutation-sym,
 use Rattle.descriptor.specs.declared.node.Node.{Node}
 use Rattle.descriptor.specs.declared.role.Role.{Role}
 use Rattle.descriptor.specs.Bodies.{takes_after, may_get_after_or, may_get_after_at, given_after_at, with_after}
-use Rattle.descriptor.specs.Nodes.{Nodes, node_at, parent_of}
+use Rattle.descriptor.specs.Nodes.{Nodes, size, node_at, parent_of}
 use Rattle.descriptor.specs.Refusals.{after_refusal}
 use Rattle.descriptor.specs.Roles.{is_spare}
 use Rattle.descriptor.proofs.AfterBodies.{taken_after, told_as_before}
@@ -48,6 +48,10 @@ module _ (t : Nodes) (b : ℕ) where
   bodies_kept : (m : ℕ) → bodies_of (with_after t m b).nodes ≡ bodies_of t.nodes
   bodies_kept zero = refl
   bodies_kept (suc i) = bodies_same b i t.nodes
+
+  few_kept : (m limit : ℕ) → size t ≤ limit + 1 → size (with_after t m b) ≤ limit + 1
+  few_kept zero limit h = h
+  few_kept (suc i) limit h = h
 
   afters_next : (m : ℕ) (afters : List ℕ) → may_get_after_at t m ≡ true → IsPermutation (afters_of t.nodes) afters → IsPermutation (afters_of (with_after t m b).nodes) (afters ++ b ∷ [])
   afters_next zero afters may h = absurd (cc)
@@ -111,6 +115,7 @@ pub after_sound : (read : LinesRead) (n : ℕ) (status : Status) (text : List �
 after_sound read n status text sound taken =
     let b = after_body n in
     record {
+      few = few_kept read.tree b n read.limit sound.few;
       has_path = path_kept read.tree b n 0 read.path sound.has_path;
       answered = sound.answered ∙ sym (bodies_kept read.tree b n);
       afters = subst (λ (l : List ℕ). IsPermutation (afters_of (with_after read.tree n b).nodes) l) (sym (map-append (λ (s : Script). s.body) read.afters (ending b 0 None 0 status text ∷ [])))
@@ -119,8 +124,8 @@ after_sound read n status text sound taken =
     }
 
 -- what has been made then, part by part
-pub after_is : (read old made : LinesRead) (n : ℕ) (status : Status) (text : List ℕ) → old ≡ read → made.tree ≡ with_after old.tree n (after_body n) → made.path ≡ old.path → made.scripts ≡ old.scripts
+pub after_is : (read old made : LinesRead) (n : ℕ) (status : Status) (text : List ℕ) → old ≡ read → made.limit ≡ old.limit → made.tree ≡ with_after old.tree n (after_body n) → made.path ≡ old.path → made.scripts ≡ old.scripts
     → made.afters ≡ old.afters ++ ending (after_body n) 0 None 0 status text ∷ [] → made.properties ≡ old.properties → made ≡ with_after_body read n (status, text)
-after_is read old made n status text same tree path scripts afters properties =
-    let there : made ≡ with_after_body old n (status, text) = λ i. record { tree = tree i; path = path i; scripts = scripts i; afters = afters i; properties = properties i } in
+after_is read old made n status text same limit tree path scripts afters properties =
+    let there : made ≡ with_after_body old n (status, text) = λ i. record { limit = limit i; tree = tree i; path = path i; scripts = scripts i; afters = afters i; properties = properties i } in
     there ∙ ap (λ (r : LinesRead). with_after_body r n (status, text)) same

@@ -1,12 +1,10 @@
 -- What is judged of a line before memory is taken is refused as the line is, and is not at fault if memory runs out.
-use Rattle.std.proofs.Common.{◌≡◌, ◌≢◌, ◌⊎◌, inl, inr, ℕ, ◌+◌, ◌<◌, ◌==◌, zero, suc, Bool, true, false, List, [], ◌∷◌, length, drop, get_or, Option, Some, None, Result, Ok, Err, IfOk, refl, ap, sym, subst, ◌∙◌}
+use Rattle.std.proofs.Common.{◌≡◌, ◌≢◌, inl, inr, ℕ, ◌+◌, ◌<◌, ◌==◌, Bool, true, false, List, ◌∷◌, length, drop, get_or, Option, Some, None, Result, Ok, Err, IfOk, refl, ap, sym, subst, ◌∙◌}
 use Rattle.std.specs.Prelude.{IfErr, if◌then◌else◌}
-use Rattle.std.specs.Str.Lines.{lines}
 use denote.Ref.{Bor}
 use Rattle.config_params.specs.declared.fault.ParamsFault.{ParamsFault}
 use Rattle.config_params.specs.Pairs.{Pair, property_of}
 use Rattle.config_params.specs.Parameters.{Parameters}
-use Rattle.suite_text.specs.declared.suite.builder.Opened.{Opened}
 use Rattle.suite_words.specs.declared.suite.fault.SuiteFault.{SuiteFault}
 use Rattle.suite_words.specs.declared.suite.fault.SuiteFault.TheVariants.{NoMemory, BadLine}
 use Rattle.suite_words.specs.declared.suite.words.Word.{Word}
@@ -14,13 +12,13 @@ use Rattle.unique_id.specs.Answers.{◌>>=◌, texts}
 use Rattle.suite_words.specs.Reading.After.{is_after, after_said}
 use Rattle.suite_text.specs.Reading.After.{class_of, given_after_body, with_after_line}
 use Rattle.suite_words.specs.Reading.Judged.{Judged, judged_pair, judged_property, judged_name, judged_node}
-use Rattle.suite_text.specs.Reading.Judged.{judged_after, judged_declaration, judged_on, judged_words, TakesMemory, MayRunOut}
+use Rattle.suite_text.specs.Reading.Judged.{judged_after, judged_on, judged_words, TakesMemory, MayRunOut}
 use Rattle.suite_words.specs.Reading.Lines.{says_nothing, first_word, after_word, level_of}
 use Rattle.suite_text.specs.Reading.Nodes.{word_on}
 use Rattle.suite_text.specs.Reading.Parts.{LinesRead, no_lines, parts_of, above}
 use Rattle.suite_words.specs.Reading.Properties.{with_said, with_property}
 use Rattle.suite_words.specs.Reading.Words.{Declaration, word_of, placed, with_attributes, with_name, declared_as}
-use Rattle.suite_text.specs.Suites.{is_property_in, with_declared, with_node_words, with_node_line, with_declaration, with_properties, with_pair, with_words_on, with_words, with_line, suite_from, suite_of_lines}
+use Rattle.suite_text.specs.Suites.{is_property_in, with_declared, with_node_words, with_declaration, with_properties, with_pair, with_words_on, with_words, with_line, suite_from, suite_of_lines}
 use Rattle.suite_text.proofs.Reading.Never.{lines_never}
 use Rattle.suite_text.proofs.Reading.Steps.{texts_drop}
 
@@ -95,26 +93,27 @@ if_err (Ok x) q = tt
 if_err (Err fault) q = λ none. q
 
 -- The first line that says something, before which lines say nothing.
-pub skipped : (number : ℕ) (line : List ℕ) (more : List (List ℕ)) (all : Result LinesRead SuiteFault) → says_nothing line ≡ true → suite_from number no_lines (line ∷ more) ≡ all → suite_from (number + 1) no_lines more ≡ all
-skipped number line more all says is = sym (ap (λ b. (if b then Ok no_lines else with_words number no_lines line) >>= (λ next. suite_from (number + 1) next more)) says) ∙ is
+pub skipped : (limit number : ℕ) (line : List ℕ) (more : List (List ℕ)) (all : Result LinesRead SuiteFault) → says_nothing line ≡ true → suite_from number (no_lines limit) (line ∷ more) ≡ all
+    → suite_from (number + 1) (no_lines limit) more ≡ all
+skipped limit number line more all says is = sym (ap (λ b. (if b then Ok (no_lines limit) else with_words number (no_lines limit) line) >>= (λ next. suite_from (number + 1) next more)) says) ∙ is
 
-pub skipped_out : (number : ℕ) (line : List ℕ) (more : List (List ℕ)) → says_nothing line ≡ true → MayRunOut (number + 1) no_lines more → MayRunOut number no_lines (line ∷ more)
-skipped_out number line more says out = inr (no_lines, ap (λ b. if b then Ok no_lines else with_words number no_lines line) says, out)
+pub skipped_out : (limit number : ℕ) (line : List ℕ) (more : List (List ℕ)) → says_nothing line ≡ true → MayRunOut (number + 1) (no_lines limit) more → MayRunOut number (no_lines limit) (line ∷ more)
+skipped_out limit number line more says out = inr (no_lines limit, ap (λ b. if b then Ok (no_lines limit) else with_words number (no_lines limit) line) says, out)
 
 pub record IsJudged (r : Judged) (text : List (List ℕ)) : Type 0 where
-  pub refused : IfErr r (λ fault. suite_of_lines text ≡ Err fault)
+  pub refused : IfErr r (λ fault. (limit : ℕ) → suite_of_lines limit text ≡ Err fault)
   pub real : IfErr r (λ fault. fault ≢ NoMemory)
-  pub judged : IfOk r (λ _. MayRunOut 1 no_lines text)
+  pub judged : IfOk r (λ _. (limit : ℕ) → MayRunOut 1 (no_lines limit) text)
 
-pub first_judged : (number : ℕ) (line : List ℕ) (more all : List (List ℕ)) (r : Judged) → r ≡ judged_words number no_lines line → says_nothing line ≡ false → suite_from number no_lines (line ∷ more) ≡ suite_from 1 no_lines all
-    → (MayRunOut number no_lines (line ∷ more) → MayRunOut 1 no_lines all) → IsJudged r all
-first_judged number line more all (Ok x) e says is out = record { refused = tt; real = tt; judged = out (inl (says, sym e)) }
+pub first_judged : (number : ℕ) (line : List ℕ) (more all : List (List ℕ)) (r : Judged) → ((limit : ℕ) → r ≡ judged_words number (no_lines limit) line) → says_nothing line ≡ false
+    → ((limit : ℕ) → suite_from number (no_lines limit) (line ∷ more) ≡ suite_from 1 (no_lines limit) all) → ((limit : ℕ) → MayRunOut number (no_lines limit) (line ∷ more) → MayRunOut 1 (no_lines limit) all) → IsJudged r all
+first_judged number line more all (Ok x) e says is out = record { refused = tt; real = tt; judged = λ limit. out limit (inl (says, sym (e limit))) }
 first_judged number line more all (Err fault) e says is out =
-    let refused : suite_of_lines all ≡ Err fault =
-    ap (λ r. r >>= (λ read. Ok (parts_of read)))
-    (sym is ∙ ap (λ b. (if b then Ok no_lines else with_words number no_lines line) >>= (λ next. suite_from (number + 1) next more)) says
-    ∙ ap (λ r. r >>= (λ next. suite_from (number + 1) next more)) (words_lead number no_lines line fault (sym e))) in
-    record { refused = refused; real = λ none. lines_never all (refused ∙ ap Err none); judged = tt }
+    let refused : (limit : ℕ) → suite_of_lines limit all ≡ Err fault =
+    λ limit. ap (λ r. r >>= (λ read. Ok (parts_of read)))
+    (sym (is limit) ∙ ap (λ b. (if b then Ok (no_lines limit) else with_words number (no_lines limit) line) >>= (λ next. suite_from (number + 1) next more)) says
+    ∙ ap (λ r. r >>= (λ next. suite_from (number + 1) next more)) (words_lead number (no_lines limit) line fault (sym (e limit)))) in
+    record { refused = refused; real = λ none. lines_never 0 all (refused 0 ∙ ap Err none); judged = tt }
 
 -- Lines that are read one by one.
 module _ (xs : List (Bor (List ℕ))) (i : ℕ) (d : Bor (List ℕ)) (old : LinesRead) (inside : i < length xs) where

@@ -13,24 +13,24 @@ use Rattle.descriptor.specs.declared.kind.Kind.TheVariants as kinds
 use Rattle.descriptor.specs.declared.node.Node.{Node}
 use Rattle.descriptor.specs.declared.role.Role.TheVariants as roles
 use Rattle.descriptor.specs.Bodies.{given_after, given_after_at, with_after}
-use Rattle.descriptor.specs.Nodes.{Nodes, size, node_at, parent_of, after_of, appended}
+use Rattle.descriptor.specs.Nodes.{Nodes, size, parent_of, after_of, appended}
 use Rattle.descriptor.specs.Refusals.{after_refusal}
 use Rattle.plan_events.specs.declared.status.Status.{Status}
 use Rattle.unique_id.specs.Answers.{◌>>=◌}
 use Rattle.suite_text.specs.declared.suite.Suite.{Suite}
-use Rattle.suite_words.specs.declared.suite.attributes.Attributes.{Attributes}
 use Rattle.suite_text.specs.declared.suite.builder.Opened.{Opened}
 use Rattle.suite_words.specs.declared.suite.fault.SuiteFault.{SuiteFault}
 use Rattle.suite_words.specs.declared.suite.verdicts.Verdict.{Verdict}
 use Rattle.suite_words.specs.declared.suite.verdicts.Verdict.TheVariants.{Pass, Fail, Abort, Disabled}
 use Rattle.suite_words.specs.declared.suite.words.Word.{Word}
 use Rattle.suite_words.specs.declared.suite.words.Word.TheVariants.{Engine, Class, Test, Factory, Dyn}
-use Rattle.suite_text.specs.Kinds.{word_in, words_of, AreNodesOf, IsA, type_by, type_at, IsKind, MayRun, HasBodies}
+use Rattle.suite_text.specs.Kinds.{word_in, words_of, AreNodesOf, IsA, type_by, IsKind, MayRun, HasBodies}
 use Rattle.suite_text.specs.Suites.{with_declared, with_declaration, with_words, with_words_on, is_property_in, with_pair, with_properties, with_line, suite_from, suite_of, suite_parts}
 use Rattle.suite_words.specs.Reading.After.{is_after, after_said, after_body}
 use Rattle.suite_text.specs.Reading.After.{is_class, class_of, with_after_body, given_after_body, with_after_line}
 use Rattle.suite_words.specs.Reading.Attributes.{attributes_of}
 use Rattle.suite_words.specs.Reading.Faults.{Gives}
+use Rattle.suite_words.specs.Limits.{node_limit, byte_limit}
 use Rattle.suite_words.specs.Reading.Lines.{says_nothing, first_word, after_word, text_after_word, level_of}
 use Rattle.suite_words.specs.Reading.Nodes.{segment_kind, kind_declared, role_declared, value_declared, body_declared, id_at}
 use Rattle.suite_text.specs.Reading.Nodes.{place_on, parent_on, word_on, node_on, refusal_on, grown, unless_refused}
@@ -39,7 +39,7 @@ use Rattle.suite_words.specs.Reading.Properties.{is_property, with_property}
 use Rattle.suite_words.specs.Reading.Verdicts.{verdict_spelled, no_verdict, verdict_with, verdict_of, status_declared, reason_declared}
 use Rattle.suite_words.specs.Reading.Words.{Declaration, word_of, may_stand, placed, with_verdict, with_attributes, with_name, declared_as}
 use Rattle.suite_words.proofs.Lists.{get_before, get_last}
-use Rattle.suite_text.proofs.Reading.Spares.{then_holds, chosen, after_any, Stands, placed_stands}
+use Rattle.suite_text.proofs.Reading.Spares.{then_holds, chosen, after_any}
 
 -- Lists that get longer at their end.
 module _ {X : Type 0} where
@@ -477,8 +477,8 @@ from_made words number read (line ∷ more) so =
     (then_holds (IsMade (words ++ own)) (IsMade ((words ++ own) ++ words_of more)) (with_line number read line) (λ next. suite_from (number + 1) next more) (line_by words number read line so (says_nothing line))
     (λ next got. from_made (words ++ own) (number + 1) next more got))
 
-nothing_made : IsMade [] no_lines
-nothing_made = record {
+nothing_made : (limit : ℕ) → IsMade [] (no_lines limit)
+nothing_made limit = record {
   as_many = refl;
   size_is = refl;
   inside = none_in;
@@ -486,7 +486,7 @@ nothing_made = record {
   path = tt;
 }
   where
-    none_in : (n : ℕ) → parent_of no_lines.tree n < size no_lines.tree
+    none_in : (n : ℕ) → parent_of (no_lines limit).tree n < size (no_lines limit).tree
     none_in zero = omega arith
     none_in (suc n) = omega arith
 
@@ -503,18 +503,18 @@ sorted words read so = record {
   bodies = record { many = so.size_is; each = λ n word e. let there = so.each n word e in (there.0, there.1, there.2.bodies) };
 }
 
-suite_sorted : (text : List ℕ) → IfOk (suite_of text) (SortedBy (words_of (lines text)))
-suite_sorted text = let words = words_of (lines text) in chosen (SortedBy words) (nat_lt 1048576 (length text)) _ _ (λ _. tt)
-    (then_holds (IsMade words) (SortedBy words) (suite_from 1 no_lines (lines text)) (λ read. Ok (parts_of read)) (from_made [] 1 no_lines (lines text) nothing_made) (λ read so. sorted words read so))
+suite_sorted : (most : Option ℕ) (text : List ℕ) → IfOk (suite_of most text) (SortedBy (words_of (lines text)))
+suite_sorted most text = let words = words_of (lines text) in let start = no_lines (node_limit most) in chosen (SortedBy words) (nat_lt (byte_limit most) (length text)) _ _ (λ _. tt)
+    (then_holds (IsMade words) (SortedBy words) (suite_from 1 start (lines text)) (λ read. Ok (parts_of read)) (from_made [] 1 start (lines text) (nothing_made (node_limit most))) (λ read so. sorted words read so))
 
 -- and of a suite that a call answers by the definition
 given_sorted : (words : List Word) (result : Result Suite SuiteFault) (read : Result SuiteParts SuiteFault) → Gives suite_parts result read → IfOk read (SortedBy words) → IfOk result (λ suite. IsSorted words suite.tree)
 given_sorted words (Ok suite) read is sorted = subst (λ (r : Result SuiteParts SuiteFault). IfOk r (SortedBy words)) is sorted
 given_sorted words (Err fault) read is sorted = tt
 
-module _ (text : List ℕ) (result : Result Suite SuiteFault) (is : Gives suite_parts result (suite_of text)) where
+module _ (most : Option ℕ) (text : List ℕ) (result : Result Suite SuiteFault) (is : Gives suite_parts result (suite_of most text)) where
   all_sorted : IfOk result (λ suite. IsSorted (words_of (lines text)) suite.tree)
-  all_sorted = given_sorted (words_of (lines text)) result (suite_of text) is (suite_sorted text)
+  all_sorted = given_sorted (words_of (lines text)) result (suite_of most text) is (suite_sorted most text)
 
 kinds_by : (words : List Word) (result : Result Suite SuiteFault) → IfOk result (λ suite. IsSorted words suite.tree) → IfOk result (λ suite. AreNodesOf (IsKind suite.tree) suite.tree words)
 kinds_by words (Ok suite) h = h.kinds
@@ -524,8 +524,8 @@ bodies_by : (words : List Word) (result : Result Suite SuiteFault) → IfOk resu
 bodies_by words (Ok suite) h = h.bodies
 bodies_by words (Err fault) h = tt
 
-pub suite_kinds : (text : List ℕ) (result : Result Suite SuiteFault) → Gives suite_parts result (suite_of text) → IfOk result (λ suite. AreNodesOf (IsKind suite.tree) suite.tree (words_of (lines text)))
-suite_kinds text result is = kinds_by (words_of (lines text)) result (all_sorted text result is)
+pub suite_kinds : (most : Option ℕ) (text : List ℕ) (result : Result Suite SuiteFault) → Gives suite_parts result (suite_of most text) → IfOk result (λ suite. AreNodesOf (IsKind suite.tree) suite.tree (words_of (lines text)))
+suite_kinds most text result is = kinds_by (words_of (lines text)) result (all_sorted most text result is)
 
-pub suite_bodies : (text : List ℕ) (result : Result Suite SuiteFault) → Gives suite_parts result (suite_of text) → IfOk result (λ suite. AreNodesOf HasBodies suite.tree (words_of (lines text)))
-suite_bodies text result is = bodies_by (words_of (lines text)) result (all_sorted text result is)
+pub suite_bodies : (most : Option ℕ) (text : List ℕ) (result : Result Suite SuiteFault) → Gives suite_parts result (suite_of most text) → IfOk result (λ suite. AreNodesOf HasBodies suite.tree (words_of (lines text)))
+suite_bodies most text result is = bodies_by (words_of (lines text)) result (all_sorted most text result is)

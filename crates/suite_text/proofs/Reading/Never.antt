@@ -21,6 +21,7 @@ use Rattle.suite_words.specs.declared.suite.fault.SuiteFault.{SuiteFault}
 use Rattle.suite_words.specs.declared.suite.fault.SuiteFault.TheVariants.{NoMemory, BadLine}
 use Rattle.suite_words.specs.Reading.Attributes.{after_sign, attribute_of, no_attributes, with_tag_of, with_spin_of, with_slow_of, with_pulls_of, with_attribute, attributes_from, attributes_of}
 use Rattle.unique_id.specs.Answers.{◌>>=◌}
+use Rattle.suite_words.specs.Limits.{node_limit, byte_limit}
 use Rattle.suite_words.specs.Reading.Lines.{says_nothing, first_word, after_word, text_after_word, level_of, indentation_of}
 use Rattle.suite_text.specs.Reading.Nodes.{word_on, refusal_on, grown, unless_refused}
 use Rattle.suite_words.specs.Reading.After.{is_after, ended, after_said, after_body}
@@ -204,8 +205,8 @@ from_never : (number : ℕ) (read : LinesRead) (ls : List (List ℕ)) → Never 
 from_never number read [] = λ e. cc
 from_never number read (line ∷ more) = then_never (with_line number read line) (λ next. suite_from (number + 1) next more) (line_never number read line) (λ next. from_never (number + 1) next more)
 
-pub lines_never : (ls : List (List ℕ)) → suite_of_lines ls ≢ Err NoMemory
-lines_never ls = then_never (suite_from 1 no_lines ls) _ (from_never 1 no_lines ls) (λ read. λ e. cc)
+pub lines_never : (limit : ℕ) (ls : List (List ℕ)) → suite_of_lines limit ls ≢ Err NoMemory
+lines_never limit ls = then_never (suite_from 1 (no_lines limit) ls) _ (from_never 1 (no_lines limit) ls) (λ read. λ e. cc)
 
-pub never_no_memory : (text : List ℕ) → suite_of text ≢ Err NoMemory
-never_no_memory text = if_never (nat_lt 1048576 (length text)) _ _ (λ e. cc) (lines_never (lines text))
+pub never_no_memory : (most : Option ℕ) (text : List ℕ) → suite_of most text ≢ Err NoMemory
+never_no_memory most text = if_never (nat_lt (byte_limit most) (length text)) _ _ (λ e. cc) (lines_never (node_limit most) (lines text))

@@ -1,8 +1,11 @@
 -- What holds after each line holds after one more node.
-use Rattle.std.proofs.Common.{◌≡◌, ◌≤◌, length, ℕ, List, [], ◌∷◌, ◌++◌, option_map, Option, Some, None, option_to_list, refl, ap, sym, subst, ◌∙◌, append-nil}
+use Rattle.std.proofs.Common.{◌≡◌, ◌≤◌, ◌+◌, Bool, true, false, cond, ltb, arith, length-append, length, ℕ, List, [], ◌∷◌, ◌++◌, option_map, Option, Some, None, option_to_list, refl, ap, sym, subst, ◌∙◌, append-nil}
+use Rattle.std.proofs.lemmas.Bool.{ltb-false}
 use Rattle.std.proofs.lemmas.List.{map-append}
 use Rattle.std.proofs.lemmas.Grind.{flat_map-append}
 use Rattle.config_params.specs.Parameters.{Parameters}
+use Rattle.descriptor.specs.declared.fault.TreeFault.{TreeFault}
+use Rattle.descriptor.specs.declared.fault.TreeFault.TheVariants.{TooMany, OverLimit}
 use Rattle.descriptor.specs.declared.node.Node.{Node}
 use Rattle.plan_events.specs.declared.status.Status.{Status}
 use Rattle.suite_words.specs.declared.suite.pulls.Pending.{Pending}
@@ -10,7 +13,7 @@ use Rattle.std.specs.List.Sorted.{IsPermutation}
 use Rattle.descriptor.specs.Nodes.{size, IsTree}
 use Rattle.suite_words.specs.Reading.Attributes.{spin_said, pulls_said}
 use Rattle.suite_words.specs.Reading.Nodes.{body_declared, counts_lines, script_declared, segment_kind}
-use Rattle.suite_text.specs.Reading.Nodes.{parent_on, word_on, node_on, grown}
+use Rattle.suite_text.specs.Reading.Nodes.{parent_on, word_on, node_on, is_over_limit_on, refusal_on, grown}
 use Rattle.suite_text.specs.Reading.Parts.{LinesRead, bodies_of, afters_of, bodies_answered}
 use Rattle.suite_text.specs.Inside.Paths.{IsSound, bodies_pending}
 use Rattle.suite_words.specs.Reading.Scripts.{ending}
@@ -44,15 +47,29 @@ answers_next nodes scripts node d n same body =
 
 -- properties are no part of it
 pub properties_sound : (read : LinesRead) (properties : Parameters) → IsSound read → IsSound (with_properties read properties)
-properties_sound read properties sound = record { has_path = sound.has_path; answered = sound.answered; afters = sound.afters; ids = sound.ids }
+properties_sound read properties sound = record { few = sound.few; has_path = sound.has_path; answered = sound.answered; afters = sound.afters; ids = sound.ids }
 
 -- a node without an after-body adds none
 afters_same : (nodes : List Node) (node : Node) → node.after ≡ None → afters_of nodes ≡ afters_of (nodes ++ node ∷ [])
 afters_same nodes node none =
     sym (flat_map-append (λ (x : Node). option_to_list x.after) nodes (node ∷ []) ∙ ap (λ o. afters_of nodes ++ (option_to_list o ++ [])) none ∙ append-nil (afters_of nodes))
 
-pub grown_sound : (read : LinesRead) (level : ℕ) (d : Declaration) → IsSound read → IsTree read.tree → level ≤ length read.path → IsSound (grown read level d)
-grown_sound read level d sound tree fits = record {
+-- a test that refuses nothing, and what comes behind it
+passed_by : (b : Bool) (fault : TreeFault) (rest : Option TreeFault) → cond b (Some fault) rest ≡ None → (b ≡ false) × (rest ≡ None)
+passed_by true fault rest e = absurd (cc)
+passed_by false fault rest e = (refl, e)
+
+-- a node that is not refused is one of no more than there may be
+few_next : (read : LinesRead) (level : ℕ) (d : Declaration) → refusal_on read level d ≡ None → size (grown read level d).tree ≤ read.limit + 1
+few_next read level d taken =
+    let below = passed_by (is_over_limit_on read level d) OverLimit _ taken in
+    let few = passed_by (ltb read.limit (size read.tree)) TooMany _ below.1 in
+    let one = length-append read.tree.parents (parent_on read level ∷ []) in
+    omega (arith, one, ltb-false read.limit (size read.tree) few.0)
+
+pub grown_sound : (read : LinesRead) (level : ℕ) (d : Declaration) → IsSound read → IsTree read.tree → level ≤ length read.path → refusal_on read level d ≡ None → IsSound (grown read level d)
+grown_sound read level d sound tree fits taken = record {
+  few = few_next read level d taken;
   has_path = path_next read.tree read.path level (node_on read level d) (record { node = size read.tree; word = d.word }) sound.has_path fits refl;
   answered = answers_next read.tree.nodes read.scripts (node_on read level d) d (size read.tree) sound.answered refl;
   afters = subst (λ (l : List ℕ). IsPermutation l (bodies_answered read.afters)) (afters_same read.tree.nodes (node_on read level d) refl) sound.afters;

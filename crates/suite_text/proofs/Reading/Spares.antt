@@ -30,6 +30,7 @@ use Rattle.suite_words.specs.Reading.Attributes.{no_attributes, with_attribute, 
 use Rattle.suite_text.specs.Reading.Bytes.{suite_read}
 use Rattle.suite_words.specs.Reading.Bytes.{without_mark}
 use Rattle.suite_words.specs.Reading.Faults.{Gives}
+use Rattle.suite_words.specs.Limits.{node_limit, byte_limit}
 use Rattle.suite_words.specs.Reading.Lines.{says_nothing, first_word, after_word, text_after_word, level_of}
 use Rattle.suite_words.specs.Reading.Nodes.{role_declared}
 use Rattle.suite_text.specs.Reading.Nodes.{node_on, parent_on, word_on, refusal_on, grown, unless_refused}
@@ -262,26 +263,27 @@ from_bare : (number : ℕ) (read : LinesRead) (ls : List (List ℕ)) → IsBareR
 from_bare number read [] so = so
 from_bare number read (line ∷ more) so = then_holds IsBareRead IsBareRead (with_line number read line) (λ next. suite_from (number + 1) next more) (line_bare number read line so) (λ next bare. from_bare (number + 1) next more bare)
 
-nothing_bare : IsBareRead no_lines
-nothing_bare = record {
+nothing_bare : (limit : ℕ) → IsBareRead (no_lines limit)
+nothing_bare limit = record {
   as_many = refl;
   bare = record { locks = nothing; engines = λ e child. absurd (let pos = child.above_zero in let inside = child.inside in omega (arith, pos, inside)) };
   path = tt;
 }
   where
-    nothing : (n : ℕ) → is_spare_at no_lines.tree n ≡ true → locks_of no_lines.tree n ≡ []
+    nothing : (n : ℕ) → is_spare_at (no_lines limit).tree n ≡ true → locks_of (no_lines limit).tree n ≡ []
     nothing zero spare = absurd (false≢true spare)
     nothing (suc n) spare = absurd (false≢true spare)
 
 abbrev IsBare : SuiteParts → Type 0
 IsBare suite = HasBareSpares suite.tree
 
-pub suite_bare : (text : List ℕ) → IfOk (suite_of text) (λ suite. HasBareSpares suite.tree)
-suite_bare text = chosen IsBare (nat_lt 1048576 (length text)) _ _ (λ _. tt)
-    (then_holds IsBareRead IsBare (suite_from 1 no_lines (lines text)) (λ read. Ok (parts_of read)) (from_bare 1 no_lines (lines text) nothing_bare) (λ read so. so.bare))
+pub suite_bare : (most : Option ℕ) (text : List ℕ) → IfOk (suite_of most text) (λ suite. HasBareSpares suite.tree)
+suite_bare most text = let start = no_lines (node_limit most) in chosen IsBare (nat_lt (byte_limit most) (length text)) _ _ (λ _. tt)
+    (then_holds IsBareRead IsBare (suite_from 1 start (lines text)) (λ read. Ok (parts_of read)) (from_bare 1 start (lines text) (nothing_bare (node_limit most))) (λ read so. so.bare))
 
-pub bytes_bare : (bytes : List ℕ) → IfOk (suite_read bytes) (λ suite. HasBareSpares suite.tree)
-bytes_bare bytes = chosen IsBare (nat_lt 1048576 (length bytes)) _ _ (λ _. tt) (chosen IsBare (is_utf8 bytes) (suite_of (without_mark bytes)) _ (λ _. suite_bare (without_mark bytes)) tt)
+pub bytes_bare : (most : Option ℕ) (bytes : List ℕ) → IfOk (suite_read most bytes) (λ suite. HasBareSpares suite.tree)
+bytes_bare most bytes =
+    chosen IsBare (nat_lt (byte_limit most) (length bytes)) _ _ (λ _. tt) (chosen IsBare (is_utf8 bytes) (suite_of most (without_mark bytes)) _ (λ _. suite_bare most (without_mark bytes)) tt)
 
 -- and of a suite that a call answers by the definition
 pub given_bare : (result : Result Suite SuiteFault) (read : Result SuiteParts SuiteFault) → Gives suite_parts result read → IfOk read (λ suite. HasBareSpares suite.tree) → IfOk result (λ suite. HasBareSpares suite.tree)

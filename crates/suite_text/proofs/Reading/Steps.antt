@@ -1,11 +1,12 @@
 -- One more line of a suite.
-use Rattle.std.proofs.Common.{rules, ◌≤◌, ◌≡◌, ℕ, ◌+◌, ◌<◌, List, ◌∷◌, map, drop, length, get_or, arith, Result, Ok, sym, subst, ap, ◌∙◌, refl}
+use Rattle.std.proofs.Common.{◌≤◌, ◌≡◌, ℕ, ◌+◌, ◌<◌, List, ◌∷◌, map, drop, length, get_or, arith, Option, Result, Ok, sym, subst, ap, ◌∙◌, refl}
 use Rattle.std.specs.Prelude.{nat_lt, Bool, false, IfErr}
+use Rattle.std.proofs.lemmas.Bool.{le-ltb}
 use Rattle.std.proofs.lemmas.List.{drop-map, drop_more, drop_all, length-map}
-use borrow.Author.Tests.{tests}
 use Rattle.std.specs.Str.Lines.{lines}
 use denote.Ref.{Bor}
 use Rattle.suite_words.specs.declared.suite.fault.SuiteFault.{SuiteFault}
+use Rattle.suite_words.specs.Limits.{node_limit, byte_limit}
 use Rattle.suite_words.specs.Reading.Faults.{Fails}
 use Rattle.unique_id.specs.Answers.{◌>>=◌, texts}
 use Rattle.suite_text.specs.Reading.Parts.{LinesRead}
@@ -38,11 +39,11 @@ lines_done xs i read all past so_far =
     sym so_far ∙ ap (suite_from (i + 1) read) (drop_all i (texts xs) (omega (arith, len, past)))
 
 -- the suite of a text that is not too large
-small : (text : List ℕ) (b : Bool) → nat_lt 1048576 (length text) ≡ b → b ≡ false → suite_of text ≡ suite_of_lines (lines text)
-small text b is e = rw (is ∙ e) refl
+small : (most : Option ℕ) (text : List ℕ) (b : Bool) → nat_lt (byte_limit most) (length text) ≡ b → b ≡ false → suite_of most text ≡ suite_of_lines (node_limit most) (lines text)
+small most text b is e = rw (is ∙ e) refl
 
-pub suite_small : (text : List ℕ) → length text ≤ 1048576 → suite_of text ≡ suite_of_lines (lines text)
-suite_small text h = small text (nat_lt 1048576 (length text)) refl (search (rules, tests))
+pub suite_small : (most : Option ℕ) (text : List ℕ) → length text ≤ byte_limit most → suite_of most text ≡ suite_of_lines (node_limit most) (lines text)
+suite_small most text h = small most text (nat_lt (byte_limit most) (length text)) refl (le-ltb (byte_limit most) (length text) h)
 
 -- a node's line that is read fails as its node does
 pub node_fails : (number level : ℕ) (read : LinesRead) (first rest : List ℕ) (d : Declaration) (result : Result (Unit {0}) SuiteFault) → declared_as number (word_on read level) first rest ≡ Ok d

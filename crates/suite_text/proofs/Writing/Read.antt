@@ -1,19 +1,19 @@
 -- What is read may be written: each text that is read is one that may be written for what was read.
-use borrow.Author.Tests.{tests}
-use Rattle.std.proofs.Common.{rules, ◌≡◌, ◌≢◌, ℕ, zero, suc, ◌-◌, ◌<◌, ◌≤◌, List, [], ◌∷◌, ◌++◌, length, take, slice_index, Bool, true, false, cond, nat_lt, Result, Ok, Err, IfOk, refl, ap, ap₂, sym, subst, ◌∙◌, arith, append-nil}
+use Rattle.std.proofs.Common.{◌≡◌, ◌≢◌, ℕ, zero, suc, ◌+◌, ◌-◌, ◌<◌, ◌≤◌, List, [], ◌∷◌, ◌++◌, length, take, slice_index, Bool, true, false, cond, nat_lt, Option, Result, Ok, Err, IfOk, refl, ap, ap₂, sym, subst, ◌∙◌, arith, append-nil}
 use Rattle.std.specs.Prelude.{◌==◌, if◌then◌else◌}
 use Rattle.std.specs.List.{AllByRecursion, slice_split, onto_first}
 use Rattle.std.specs.Str.{is_utf8}
 use Rattle.std.specs.Str.Lines.{lines, lines_of_parts}
-use Rattle.std.proofs.lemmas.Bool.{false≢true}
+use Rattle.std.proofs.lemmas.Bool.{false≢true, ltb-false}
 use Rattle.std.proofs.lemmas.Bool.Decides.{Decides-eqb}
 use Rattle.std.proofs.lemmas.List.{append_assoc}
 use Rattle.config_params.specs.Parameters.{nothing_said}
-use Rattle.descriptor.specs.Nodes.{IsTree}
+use Rattle.descriptor.specs.Nodes.{IsTree, size}
 use Rattle.suite_text.specs.declared.suite.Suite.{Suite}
 use Rattle.suite_words.specs.declared.suite.fault.SuiteFault.{SuiteFault}
 use Rattle.suite_words.specs.declared.suite.fault.SuiteFault.TheVariants.{TooLarge, BadLine}
 use Rattle.suite_text.specs.Reading.Bytes.{suite_read, line_of_fault}
+use Rattle.suite_words.specs.Limits.{node_limit, byte_limit}
 use Rattle.suite_words.specs.Reading.Bytes.{without_mark}
 use Rattle.suite_words.specs.Reading.Faults.{Gives}
 use Rattle.suite_text.specs.Reading.Parts.{SuiteParts, LinesRead, no_lines, parts_of, suite_made}
@@ -117,21 +117,21 @@ written_lines text =
     record { lines = all.lines; whole = parts.whole ∙ all.whole; are = all.are; texts_are = all.texts_are }
 
 -- The suite.
-not_larger : (n : ℕ) → nat_lt 1048576 n ≡ false → n ≤ 1048576
-not_larger n e = search (rules, tests)
+module _ (most : Option ℕ) (text : List ℕ) (parts : SuiteParts) (read : suite_of most text ≡ Ok parts) (tree : IsTree parts.tree) (few : size parts.tree ≤ node_limit most + 1) where
+  abbrev limit : ℕ
+  limit = node_limit most
 
-module _ (text : List ℕ) (parts : SuiteParts) (read : suite_of text ≡ Ok parts) (tree : IsTree parts.tree) where
-  small : (nat_lt 1048576 (length text) ≡ false) × (suite_of_lines (lines text) ≡ Ok parts)
-  small = ok_else (nat_lt 1048576 (length text)) _ (suite_of_lines (lines text)) parts read
+  small : (nat_lt (byte_limit most) (length text) ≡ false) × (suite_of_lines limit (lines text) ≡ Ok parts)
+  small = ok_else (nat_lt (byte_limit most) (length text)) _ (suite_of_lines limit (lines text)) parts read
 
-  made : (got : LinesRead) × (suite_from 1 no_lines (lines text) ≡ Ok got) × (parts ≡ parts_of got)
-  made = let got = ok_then (suite_from 1 no_lines (lines text)) (λ r. Ok (parts_of r)) parts small.1 in (got.0, got.1, ok_same _ (parts_of got.0) parts refl got.2)
+  made : (got : LinesRead) × (suite_from 1 (no_lines limit) (lines text) ≡ Ok got) × (parts ≡ parts_of got)
+  made = let got = ok_then (suite_from 1 (no_lines limit) (lines text)) (λ r. Ok (parts_of r)) parts small.1 in (got.0, got.1, ok_same _ (parts_of got.0) parts refl got.2)
 
   all : AreWritten text (lines text)
   all = written_lines text
 
-  opening : Opening nothing_said made.0 [] all.lines
-  opening = opened all.lines 1 nothing_said made.0 [] tt (ap (suite_from 1 no_lines) (sym all.texts_are) ∙ made.1)
+  opening : Opening limit nothing_said made.0 [] all.lines
+  opening = opened all.lines limit 1 nothing_said made.0 [] tt (ap (suite_from 1 (no_lines limit)) (sym all.texts_are) ∙ made.1)
 
   abbrev written : Written
   written = record { properties = opening.properties; engines = opening.engines; after = opening.end }
@@ -145,33 +145,37 @@ module _ (text : List ℕ) (parts : SuiteParts) (read : suite_of text ≡ Ok par
   short : AreShort (meant written).tree.nodes
   short = subst AreShort (ap (λ (p : SuiteParts). p.tree.nodes) (sym made.2 ∙ meant_is)) opening.short
 
-  is_written : IsWritten written
+  is_written : IsWritten most written
   is_written = record {
     properties = opening.may;
     items = opening.are;
     after = opening.nothing;
     lines = subst AreLines opening.lines_are all.are;
     tree = subst (λ (p : SuiteParts). IsTree p.tree) meant_is tree;
+    few = subst (λ (p : SuiteParts). size p.tree ≤ limit + 1) meant_is few;
     ids = short;
-    short = subst (λ (l : List ℕ). length l ≤ 1048576) text_is (not_larger (length text) small.0);
+    short = subst (λ (l : List ℕ). length l ≤ byte_limit most) text_is (ltb-false (byte_limit most) (length text) small.0);
   }
 
-  may_be_written : IsSuite text parts
+  may_be_written : IsSuite most text parts
   may_be_written = record { written = written; is_written = is_written; text_is = text_is; parts_are = meant_is }
 
-pub given_written : (text : List ℕ) (result : Result Suite SuiteFault) → Gives suite_parts result (suite_of text) → IfOk result (λ suite. IsTree suite.tree) → IfOk result (λ suite. IsSuite text (suite_parts suite))
-given_written text (Ok suite) read tree = may_be_written text (suite_parts suite) read tree
-given_written text (Err fault) read tree = tt
+pub given_written : (most : Option ℕ) (text : List ℕ) (result : Result Suite SuiteFault) → Gives suite_parts result (suite_of most text) → IfOk result (λ suite. IsTree suite.tree)
+    → IfOk result (λ suite. size suite.tree ≤ node_limit most + 1) → IfOk result (λ suite. IsSuite most text (suite_parts suite))
+given_written most text (Ok suite) read tree few = may_be_written most text (suite_parts suite) read tree few
+given_written most text (Err fault) read tree few = tt
 
 -- and so for bytes
-utf8_read : (text : List ℕ) (parts : SuiteParts) (b : Bool) (fault : SuiteFault) → (if b then suite_of text else Err fault) ≡ Ok parts → suite_of text ≡ Ok parts
-utf8_read text parts true fault e = e
-utf8_read text parts false fault e = absurd (cc)
+utf8_read : (most : Option ℕ) (text : List ℕ) (parts : SuiteParts) (b : Bool) (fault : SuiteFault) → (if b then suite_of most text else Err fault) ≡ Ok parts → suite_of most text ≡ Ok parts
+utf8_read most text parts true fault e = e
+utf8_read most text parts false fault e = absurd (cc)
 
-text_read : (bytes : List ℕ) (parts : SuiteParts) → suite_read bytes ≡ Ok parts → suite_of (without_mark bytes) ≡ Ok parts
-text_read bytes parts e =
-    utf8_read (without_mark bytes) parts (is_utf8 bytes) (BadLine (line_of_fault bytes)) (ok_else (nat_lt 1048576 (length bytes)) TooLarge (if is_utf8 bytes then suite_of (without_mark bytes) else Err (BadLine (line_of_fault bytes))) parts e).1
+text_read : (most : Option ℕ) (bytes : List ℕ) (parts : SuiteParts) → suite_read most bytes ≡ Ok parts → suite_of most (without_mark bytes) ≡ Ok parts
+text_read most bytes parts e =
+    utf8_read most (without_mark bytes) parts (is_utf8 bytes) (BadLine (line_of_fault bytes))
+    (ok_else (nat_lt (byte_limit most) (length bytes)) TooLarge (if is_utf8 bytes then suite_of most (without_mark bytes) else Err (BadLine (line_of_fault bytes))) parts e).1
 
-pub given_bytes_written : (bytes : List ℕ) (result : Result Suite SuiteFault) → Gives suite_parts result (suite_read bytes) → IfOk result (λ suite. IsTree suite.tree) → IfOk result (λ suite. IsSuite (without_mark bytes) (suite_parts suite))
-given_bytes_written bytes (Ok suite) read tree = may_be_written (without_mark bytes) (suite_parts suite) (text_read bytes (suite_parts suite) read) tree
-given_bytes_written bytes (Err fault) read tree = tt
+pub given_bytes_written : (most : Option ℕ) (bytes : List ℕ) (result : Result Suite SuiteFault) → Gives suite_parts result (suite_read most bytes) → IfOk result (λ suite. IsTree suite.tree)
+    → IfOk result (λ suite. size suite.tree ≤ node_limit most + 1) → IfOk result (λ suite. IsSuite most (without_mark bytes) (suite_parts suite))
+given_bytes_written most bytes (Ok suite) read tree few = may_be_written most (without_mark bytes) (suite_parts suite) (text_read most bytes (suite_parts suite) read) tree few
+given_bytes_written most bytes (Err fault) read tree few = tt

@@ -1,7 +1,7 @@
 -- Lines that are read are those of items that may be written.
 use borrow.Author.Tests.{tests}
-use Rattle.std.proofs.Common.{rules, ◌≡◌, ◌≢◌, ℕ, zero, suc, ◌+◌, ◌-◌, ◌<◌, ◌≤◌, ◌||◌, ◌&&◌, ◌⊎◌, inl, inr, List, [], ◌∷◌, ◌++◌, length, take, Bool, true, false, cond, nat_lt, Option, Some, None, option_map, option_to_list, Result, Ok, Err, IfOk, refl, ap, ap₂, sym, subst, ◌∙◌, arith, length-append, append-nil}
-use Rattle.std.specs.Prelude.{◌==◌, if◌then◌else◌, slice_get}
+use Rattle.std.proofs.Common.{rules, ◌≡◌, ℕ, zero, suc, ◌+◌, ◌-◌, ◌<◌, ◌≤◌, ◌||◌, ◌&&◌, ◌⊎◌, inl, inr, List, [], ◌∷◌, ◌++◌, length, take, Bool, true, false, cond, nat_lt, Option, Some, None, option_map, option_to_list, Ok, Err, refl, ap, ap₂, sym, subst, ◌∙◌, arith, length-append, append-nil}
+use Rattle.std.specs.Prelude.{◌==◌, if◌then◌else◌}
 use Rattle.std.specs.List.{AllByRecursion}
 use Rattle.std.specs.Option.{is_some, is_none}
 use Rattle.std.proofs.lemmas.Bool.{and_parts, false≢true}
@@ -16,15 +16,12 @@ use Rattle.descriptor.specs.Nodes.{Nodes, size, after_of}
 use Rattle.descriptor.specs.Refusals as trees
 use Rattle.descriptor.specs.Refusals.{after_refusal}
 use Rattle.descriptor.proofs.AfterBodies.{taken_after}
-use Rattle.plan_events.specs.declared.status.Status.{Status}
 use Rattle.unique_id.specs.Answers.{◌>>=◌}
-use Rattle.unique_id.specs.Spelling as ids
 use Rattle.unique_id.specs.Spelling.{spelling}
 use Rattle.unique_id.specs.declared.fault.UidFault.TheVariants.{EmptyPart, TooLong}
 use Rattle.unique_id.specs.declared.unique_id.Segment.{Segment}
 use Rattle.suite_words.specs.declared.script.Script.{Script}
 use Rattle.suite_text.specs.declared.suite.builder.Opened.{Opened}
-use Rattle.suite_words.specs.declared.suite.fault.SuiteFault.{SuiteFault}
 use Rattle.suite_words.specs.declared.suite.fault.SuiteFault.TheVariants.{BadLine}
 use Rattle.suite_words.specs.declared.suite.words.Word.{Word}
 use Rattle.suite_words.specs.declared.suite.words.Word.TheVariants.{Engine, Class, Test, Factory, Dyn}
@@ -33,10 +30,9 @@ use Rattle.suite_text.specs.Reading.After.{is_class, class_of, with_after_body, 
 use Rattle.suite_words.specs.Reading.Lines.{says_nothing, begins_with_sign, without_front, first_word, after_word, level_of}
 use Rattle.suite_words.specs.Reading.Nodes.{segment_kind, value_declared, id_at}
 use Rattle.suite_text.specs.Reading.Nodes.{place_on, parent_on, word_on, node_on, is_over_limit_on, refusal_on, grown, unless_refused}
-use Rattle.suite_text.specs.Reading.Parts.{SuiteParts, Made, suite_made, LinesRead, no_lines, made_of, parts_of, above, word_of_opened, node_of_opened}
+use Rattle.suite_text.specs.Reading.Parts.{Made, LinesRead, no_lines, made_of, above, word_of_opened, node_of_opened}
 use Rattle.suite_words.specs.Reading.Properties.{is_property, with_property}
 use Rattle.suite_words.specs.Reading.Scripts.{ending}
-use Rattle.suite_words.specs.Reading.Verdicts.{status_declared}
 use Rattle.suite_words.specs.Reading.Words.{Declaration, declared_as}
 use Rattle.suite_text.specs.Suites.{with_declared, with_declaration, with_words, with_words_on, is_property_in, with_pair, with_properties, with_line, suite_from}
 use Rattle.suite_words.specs.Words.{is_space}
@@ -45,9 +41,9 @@ use Rattle.suite_text.specs.Writing.Lines.{spaces, NodeLine, node_text, declares
 use Rattle.suite_text.specs.Writing.Properties.{Property, property_text, IsProperty, said_to}
 use Rattle.suite_text.specs.Writing.Suites.{Line, LineEnd, SaysNothing, Items, NoMore, Item, AfterItem, innermost, lines_of_items, with_item, in_item, with_items, nothing_made, PropertyLine, lines_of_properties, all_said_to, AreItems, IsShortId}
 use Rattle.suite_text.proofs.Writing.Cuts.{indent, front_of}
-use Rattle.suite_text.proofs.Writing.NodeLines.{level_so, IsLine, node_so, IsAfter, after_so}
+use Rattle.suite_text.proofs.Writing.NodeLines.{level_so, node_so, after_so}
 use Rattle.suite_text.proofs.Writing.Said.{ok_then, ok_same, zero_empty}
-use Rattle.suite_text.proofs.Writing.Sets.{IsSet, property_so}
+use Rattle.suite_text.proofs.Writing.Sets.{property_so}
 use Rattle.suite_text.proofs.Writing.Suites.{above_front}
 use Rattle.suite_text.proofs.Writing.Texts.{texts_of}
 use Rattle.suite_text.proofs.Writing.Words.{are_spaces}
@@ -151,6 +147,19 @@ line_by number read next text false says e =
 outcome : (number : ℕ) (read next : LinesRead) (text : List ℕ) → with_line number read text ≡ Ok next → Outcome read next text
 outcome number read next text e = line_by number read next text (says_nothing text) refl e
 
+-- How many nodes there may be stays as it is.
+limit_kept : (read next : LinesRead) (text : List ℕ) → Outcome read next text → next.limit ≡ read.limit
+limit_kept read next text (Passed says same) = ap (λ (r : LinesRead). r.limit) same
+limit_kept read next text (PropertyRead none p is text_is same) = ap (λ (r : LinesRead). r.limit) same
+limit_kept read next text (AfterRead level fits l text_is is takes same) = ap (λ (r : LinesRead). r.limit) same
+limit_kept read next text (NodeRead level fits l text_is is unrefused same) = ap (λ (r : LinesRead). r.limit) same
+
+pub limit_same : (ls : List (List ℕ)) (number : ℕ) (read got : LinesRead) → suite_from number read ls ≡ Ok got → got.limit ≡ read.limit
+limit_same [] number read got e = ap (λ (r : LinesRead). r.limit) (ok_same _ read got refl e)
+limit_same (line ∷ more) number read got e =
+    let one = ok_then (with_line number read line) (λ next. suite_from (number + 1) next more) got e in
+    limit_same more (number + 1) one.0 got one.2 ∙ limit_kept read one.0 line (outcome number read one.0 line one.1)
+
 -- Unique ids within their limits.
 abbrev pub AreShort : List Node → Type 0
 AreShort nodes = AllByRecursion (λ node. IsShortId node.id) nodes
@@ -192,7 +201,7 @@ short_node read level d none =
     let kind = segment_kind (word_on read level) d.word in
     let value = value_declared d (place_on read level) in
     within_by (id_at read.tree (parent_on read level)) (record { kind = kind; value = value }) (length kind == 0) (length value == 0) _ _ refl refl
-    (not_over (is_over_limit_on read level d) OverLimit (trees.refusal read.tree (parent_on read level) (node_on read level d)) none)
+    (not_over (is_over_limit_on read level d) OverLimit (trees.refusal read.limit read.tree (parent_on read level) (node_on read level d)) none)
 
 -- Items on each level of a path, the deepest first.
 abbrev Stack : ℕ → Type 0
@@ -511,7 +520,7 @@ stacked (line ∷ more) number read got d before all deep some e =
     (λ next n front nothing long more_than k. stacked more (number + 1) next got n front nothing long more_than k)
 
 -- From the first line on: properties, then engines.
-pub record Opening (params : Parameters) (got : LinesRead) (before ls : List Line) : Type 0 where
+pub record Opening (limit : ℕ) (params : Parameters) (got : LinesRead) (before ls : List Line) : Type 0 where
   pub properties : List PropertyLine
   pub engines : Items
   pub end : List Line
@@ -522,11 +531,11 @@ pub record Opening (params : Parameters) (got : LinesRead) (before ls : List Lin
   pub made_is : made_of got ≡ with_items (nothing_made (all_said_to params properties)) [] engines
   pub short : AreShort got.tree.nodes
 
-abbrev at_start : Parameters → LinesRead
-at_start params = with_properties no_lines params
+abbrev at_start : ℕ → Parameters → LinesRead
+at_start limit params = with_properties (no_lines limit) params
 
-from_stack : (params : Parameters) (got : LinesRead) (before ls : List Line) → Stacked (at_start params) got 0 before ls → Opening params got before ls
-from_stack params got before ls s = record {
+from_stack : (limit : ℕ) (params : Parameters) (got : LinesRead) (before ls : List Line) → Stacked (at_start limit params) got 0 before ls → Opening limit params got before ls
+from_stack limit params got before ls s = record {
   properties = [];
   engines = s.stack;
   end = s.end;
@@ -538,8 +547,8 @@ from_stack params got before ls s = record {
   short = s.short tt;
 }
 
-nothing_opened : (params : Parameters) (got : LinesRead) (before more : List Line) (line : Line) → Opening params got (before ++ line ∷ []) more → Opening params got before (line ∷ more)
-nothing_opened params got before more line o = record {
+nothing_opened : (limit : ℕ) (params : Parameters) (got : LinesRead) (before more : List Line) (line : Line) → Opening limit params got (before ++ line ∷ []) more → Opening limit params got before (line ∷ more)
+nothing_opened limit params got before more line o = record {
   properties = o.properties;
   engines = o.engines;
   end = o.end;
@@ -551,9 +560,9 @@ nothing_opened params got before more line o = record {
   short = o.short;
 }
 
-property_opened : (params : Parameters) (got : LinesRead) (before more : List Line) (line : Line) (p : Property) → AllByRecursion SaysNothing before → IsProperty p → line.text ≡ property_text p → Opening (said_to params p) got [] more
-    → Opening params got before (line ∷ more)
-property_opened params got before more line p nothing is text o =
+property_opened : (limit : ℕ) (params : Parameters) (got : LinesRead) (before more : List Line) (line : Line) (p : Property) → AllByRecursion SaysNothing before → IsProperty p → line.text ≡ property_text p → Opening limit (said_to params p) got [] more
+    → Opening limit params got before (line ∷ more)
+property_opened limit params got before more line p nothing is text o =
     let own : PropertyLine = record { before = before; property = p; end = line.end } in
     let written : Line = record { text = property_text p; end = line.end } in
     let same : line ≡ written = ap (λ t. record { text = t; end = line.end }) text in
@@ -569,26 +578,26 @@ property_opened params got before more line p nothing is text o =
       short = o.short;
     }
 
-abbrev OpensOn : ℕ → List Line → LinesRead → Type 0
-OpensOn number more got = (params : Parameters) (before : List Line) → AllByRecursion SaysNothing before → suite_from (number + 1) (at_start params) (texts_of more) ≡ Ok got → Opening params got before more
+abbrev OpensOn : ℕ → ℕ → List Line → LinesRead → Type 0
+OpensOn limit number more got = (params : Parameters) (before : List Line) → AllByRecursion SaysNothing before → suite_from (number + 1) (at_start limit params) (texts_of more) ≡ Ok got → Opening limit params got before more
 
 no_level : (level : ℕ) → level ≤ 0 → level ≡ 0
 no_level level h = omega (arith, h)
 
-step_opened : (number : ℕ) (params : Parameters) (next got : LinesRead) (before more : List Line) (line : Line) → AllByRecursion SaysNothing before → Outcome (at_start params) next line.text
-    → suite_from (number + 1) next (texts_of more) ≡ Ok got → OpensOn number more got → GoesOn number more got → Opening params got before (line ∷ more)
-step_opened number params next got before more line all (Passed says same) e go on =
-    nothing_opened params got before more line (go params (before ++ line ∷ []) (says_nothing_more before line all says) (sym (ap (λ r. suite_from (number + 1) r (texts_of more)) same) ∙ e))
-step_opened number params next got before more line all (PropertyRead none p is text same) e go on =
-    property_opened params got before more line p all is text (go (said_to params p) [] tt (sym (ap (λ r. suite_from (number + 1) r (texts_of more)) same) ∙ e))
-step_opened number params next got before more line all (AfterRead level fits l text is takes same) e go on =
-    absurd (let at = no_level level fits in subst (λ (n : ℕ). TakesAfter (at_start params).tree (above [] n)) at takes)
-step_opened number params next got before more line all (NodeRead level fits l text is unrefused same) e go on =
-    from_stack params got before (line ∷ more) (node_step number (at_start params) next got 0 level before more line l all refl fits text is unrefused same e on)
+step_opened : (limit number : ℕ) (params : Parameters) (next got : LinesRead) (before more : List Line) (line : Line) → AllByRecursion SaysNothing before → Outcome (at_start limit params) next line.text
+    → suite_from (number + 1) next (texts_of more) ≡ Ok got → OpensOn limit number more got → GoesOn number more got → Opening limit params got before (line ∷ more)
+step_opened limit number params next got before more line all (Passed says same) e go on =
+    nothing_opened limit params got before more line (go params (before ++ line ∷ []) (says_nothing_more before line all says) (sym (ap (λ r. suite_from (number + 1) r (texts_of more)) same) ∙ e))
+step_opened limit number params next got before more line all (PropertyRead none p is text same) e go on =
+    property_opened limit params got before more line p all is text (go (said_to params p) [] tt (sym (ap (λ r. suite_from (number + 1) r (texts_of more)) same) ∙ e))
+step_opened limit number params next got before more line all (AfterRead level fits l text is takes same) e go on =
+    absurd (let at = no_level level fits in subst (λ (n : ℕ). TakesAfter (at_start limit params).tree (above [] n)) at takes)
+step_opened limit number params next got before more line all (NodeRead level fits l text is unrefused same) e go on =
+    from_stack limit params got before (line ∷ more) (node_step number (at_start limit params) next got 0 level before more line l all refl fits text is unrefused same e on)
 
-pub opened : (ls : List Line) (number : ℕ) (params : Parameters) (got : LinesRead) (before : List Line) → AllByRecursion SaysNothing before → suite_from number (at_start params) (texts_of ls) ≡ Ok got → Opening params got before ls
-opened [] number params got before all e =
-    let same : got ≡ at_start params = ok_same _ (at_start params) got refl e in
+pub opened : (ls : List Line) (limit number : ℕ) (params : Parameters) (got : LinesRead) (before : List Line) → AllByRecursion SaysNothing before → suite_from number (at_start limit params) (texts_of ls) ≡ Ok got → Opening limit params got before ls
+opened [] limit number params got before all e =
+    let same : got ≡ at_start limit params = ok_same _ (at_start limit params) got refl e in
     record {
       properties = [];
       engines = NoMore;
@@ -600,8 +609,8 @@ opened [] number params got before all e =
       made_is = ap made_of same;
       short = subst (λ (r : LinesRead). AreShort r.tree.nodes) (sym same) tt;
     }
-opened (line ∷ more) number params got before all e =
-    let read_one = ok_then (with_line number (at_start params) line.text) (λ next. suite_from (number + 1) next (texts_of more)) got e in
-    step_opened number params read_one.0 got before more line all (outcome number (at_start params) read_one.0 line.text read_one.1) read_one.2
-    (λ p front nothing k. opened more (number + 1) p got front nothing k)
+opened (line ∷ more) limit number params got before all e =
+    let read_one = ok_then (with_line number (at_start limit params) line.text) (λ next. suite_from (number + 1) next (texts_of more)) got e in
+    step_opened limit number params read_one.0 got before more line all (outcome number (at_start limit params) read_one.0 line.text read_one.1) read_one.2
+    (λ p front nothing k. opened more limit (number + 1) p got front nothing k)
     (λ next n front nothing long some k. stacked more (number + 1) next got n front nothing long some k)

@@ -1,11 +1,10 @@
 -- A written suite is read back.
-use borrow.Author.Tests.{tests}
-use Rattle.std.proofs.Common.{rules, nat_lt, ◌≡◌, ℕ, zero, suc, ◌+◌, ◌<◌, ◌≤◌, List, [], ◌∷◌, ◌++◌, length, take, Bool, true, false, cond, if◌then◌else◌, ◌||◌, ◌&&◌, ◌==◌, drop, option_map, option_to_list, Err, inl, inr, Option, Some, None, Result, Ok, refl, ap, sym, subst, ◌∙◌, arith, append-nil, length-append}
+use Rattle.std.proofs.Common.{nat_lt, ◌≡◌, ℕ, zero, suc, ◌+◌, ◌<◌, ◌≤◌, List, [], ◌∷◌, ◌++◌, length, take, Bool, true, false, cond, if◌then◌else◌, ◌||◌, ◌&&◌, ◌==◌, drop, option_map, option_to_list, Err, inl, inr, Option, Some, None, Result, Ok, refl, ap, sym, subst, ◌∙◌, arith, append-nil, length-append}
 use Rattle.std.specs.Prelude.{slice_get}
 use Rattle.std.specs.List.{AllByRecursion}
 use Rattle.std.specs.Option.{is_some, is_none}
 use Rattle.std.specs.Str.{IsUtf8}
-use Rattle.std.proofs.lemmas.Bool.{ne_eqb}
+use Rattle.std.proofs.lemmas.Bool.{ne_eqb, le-ltb}
 use Rattle.std.proofs.lemmas.List.{append_assoc}
 use Rattle.descriptor.specs.declared.fault.TreeFault.TheVariants.{OverLimit}
 use Rattle.descriptor.specs.declared.node.Node.{Node}
@@ -21,6 +20,7 @@ use Rattle.suite_words.specs.declared.suite.fault.SuiteFault.{SuiteFault}
 use Rattle.suite_words.specs.declared.suite.words.Word.{Word}
 use Rattle.suite_words.specs.declared.suite.words.Word.TheVariants.{Engine, Class, Test, Factory, Dyn}
 use Rattle.suite_text.specs.Reading.Bytes.{suite_read}
+use Rattle.suite_words.specs.Limits.{node_limit, byte_limit}
 use Rattle.suite_words.specs.Reading.Bytes.{without_mark}
 use Rattle.suite_words.specs.Reading.Faults.{Gives}
 use Rattle.unique_id.specs.Answers.{◌>>=◌}
@@ -65,10 +65,10 @@ passed number read (line ∷ more) rest h =
       ap (λ b. (if b then Ok read else with_words number read line.text) >>= (λ r. goes (number + 1) r (more ++ rest))) (nothing_said line h.0) ∙ next.1,
     )
 
--- no limit refuses the node that a line declares in a place
-record IsTaken (made : Made) (place : Option Opened) (line : NodeLine) : Type 0 where
+-- no limit refuses the node that a line declares in a place, where there may be so many nodes
+record IsTaken (limit : ℕ) (made : Made) (place : Option Opened) (line : NodeLine) : Type 0 where
   pub id : ids.refusal (id_at made.tree (node_of_opened place)) (segment_kind (word_of_opened place) line.word) (value_declared (declares line) (next_place made.tree (node_of_opened place))) ≡ None
-  pub tree : trees.refusal made.tree (node_of_opened place) (node_in made place line) ≡ None
+  pub tree : trees.refusal limit made.tree (node_of_opened place) (node_in made place line) ≡ None
 
 some_kind : (above : Option Word) (w : Word) → (length (segment_kind above w) == 0) ≡ false
 some_kind above Engine = refl
@@ -130,13 +130,13 @@ counted_items (AfterItem before level line end after) made places h =
     let n = node_of_opened (above places level) in
     counted_items after (with_after_item made n line) places (counted_after made n line h)
 
-taken_item : (made : Made) (place : Option Opened) (line : NodeLine) (final : Nodes) → IsCounted made → IsWord line.name → Extends (with_item made place line).tree final → IsTree final
-    → AllByRecursion (λ (node : Node). IsShortId node.id) final.nodes → IsTaken made place line
-taken_item made place line final counted name more tree ids = record {
+taken_item : (limit : ℕ) (made : Made) (place : Option Opened) (line : NodeLine) (final : Nodes) → IsCounted made → IsWord line.name → Extends (with_item made place line).tree final → IsTree final
+    → AllByRecursion (λ (node : Node). IsShortId node.id) final.nodes → size final ≤ limit + 1 → IsTaken limit made place line
+taken_item limit made place line final counted name more tree ids few = record {
   id = id_short (id_at made.tree (node_of_opened place)) (segment_kind (word_of_opened place) line.word) (value_declared (declares line) (next_place made.tree (node_of_opened place)))
       (some_kind (word_of_opened place) line.word) (some_value line (next_place made.tree (node_of_opened place)) name)
       (id_next made.tree final (node_of_opened place) (node_in made place line) more ids);
-  tree = taken_next made.tree final (node_of_opened place) (node_in made place line) counted more tree;
+  tree = taken_next limit made.tree final (node_of_opened place) (node_in made place line) counted more tree few;
 }
 
 -- no property's line
@@ -146,10 +146,10 @@ neither false x y = refl
 
 -- a line that declares a node
 module _ (number level : ℕ) (read : LinesRead) (line : NodeLine) (fits : level ≤ length read.path) where
-  refused_not : IsTaken (made_of read) (above read.path level) line → refusal_on read level (declares line) ≡ None
-  refused_not taken = ap (λ r. cond (is_some r) (Some OverLimit) (trees.refusal read.tree (parent_on read level) (node_on read level (declares line)))) taken.id ∙ taken.tree
+  refused_not : IsTaken read.limit (made_of read) (above read.path level) line → refusal_on read level (declares line) ≡ None
+  refused_not taken = ap (λ r. cond (is_some r) (Some OverLimit) (trees.refusal read.limit read.tree (parent_on read level) (node_on read level (declares line)))) taken.id ∙ taken.tree
 
-  line_taken : IsNodeLine (word_of_opened (above read.path level)) line → IsTaken (made_of read) (above read.path level) line → with_line number read (node_text level line) ≡ Ok (grown read level (declares line))
+  line_taken : IsNodeLine (word_of_opened (above read.path level)) line → IsTaken read.limit (made_of read) (above read.path level) line → with_line number read (node_text level line) ≡ Ok (grown read level (declares line))
   line_taken is taken =
       let text = node_text level line in
       ap (λ b. if b then Ok read else with_words number read text) (line_says number level line)
@@ -241,19 +241,21 @@ record ItemsRead (number : ℕ) (read : LinesRead) (made : Made) (places : List 
   pub got : LinesRead
   pub goes_on : goes number read (lines_of_items (length places) items ++ rest) ≡ goes next got rest
   pub made_is : made_of got ≡ with_items made places items
+  pub limit_is : got.limit ≡ read.limit
   pub still : AreOpen places got.path
 
 module _ (final : Nodes) (tree : IsTree final) (short : AllByRecursion (λ (node : Node). IsShortId node.id) final.nodes) where
-  items_back : (items : Items) (number : ℕ) (read : LinesRead) (made : Made) (places : List Opened) (rest : List Line) → made_of read ≡ made → AreOpen places read.path
+  items_back : (items : Items) (number : ℕ) (read : LinesRead) (made : Made) (places : List Opened) (rest : List Line) → made_of read ≡ made → size final ≤ read.limit + 1 → AreOpen places read.path
       → IsCounted made → Extends (with_items made places items).tree final → AreItems made places items → ItemsRead number read made places items rest
-  items_back NoMore number read made places rest same fronts counted more are = record {
+  items_back NoMore number read made places rest same few fronts counted more are = record {
     next = number;
     got = read;
     goes_on = refl;
     made_is = same;
+    limit_is = refl;
     still = fronts;
   }
-  items_back (Item before line end inside after) number read made places rest same fronts counted more are =
+  items_back (Item before line end inside after) number read made places rest same few fronts counted more are =
       let level = length places in
       let place = innermost places in
       let at : above read.path level ≡ place = open_above places read.path level fronts (omega arith) in
@@ -270,8 +272,9 @@ module _ (final : Nodes) (tree : IsTree final) (short : AllByRecursion (λ (node
       let more_within : Extends made_within.tree final = extends_then made_within.tree _ final (extends_items after made_within places are.3) more in
       let more_own : Extends made_own.tree final = extends_then made_own.tree made_within.tree final (extends_items inside made_own inner are.2) more_within in
       let is : IsNodeLine (word_of_opened (above read.path level)) line = subst (λ (p : Option Opened). IsNodeLine (word_of_opened p) line) (sym at) are.1 in
-      let taken : IsTaken (made_of read) (above read.path level) line =
-      subst (λ (p : Option Opened). IsTaken (made_of read) p line) (sym at) (subst (λ (q : Made). IsTaken q place line) (sym same) (taken_item made place line final counted are.1.name more_own tree short)) in
+      let taken : IsTaken read.limit (made_of read) (above read.path level) line =
+      subst (λ (p : Option Opened). IsTaken read.limit (made_of read) p line) (sym at)
+      (subst (λ (q : Made). IsTaken read.limit q place line) (sym same) (taken_item read.limit made place line final counted are.1.name more_own tree short few)) in
       let step : goes front.0 read (own ∷ (within ++ (behind ++ rest))) ≡ goes (front.0 + 1) with_own (within ++ (behind ++ rest)) =
       ap (λ r. r >>= (λ x. goes (front.0 + 1) x (within ++ (behind ++ rest)))) (line_taken front.0 level read line fronts.fits is taken) in
       let made_now : made_of with_own ≡ made_own = ap (λ q. with_item q (above read.path level) line) same ∙ ap (λ p. with_item made p line) at in
@@ -279,8 +282,9 @@ module _ (final : Nodes) (tree : IsTree final) (short : AllByRecursion (λ (node
       let opened : Opened = record { node = size made.tree; word = line.word } in
       let open_now : AreOpen inner with_own.path = subst (λ (p : List Opened). AreOpen inner p) (sym path_now) (open_next places opened) in
       let deeper : suc level ≡ length inner = let all = length-append places (opened ∷ []) in omega (arith, all) in
-      let first = items_back inside (front.0 + 1) with_own made_own inner (behind ++ rest) made_now open_now (counted_item made place line counted) more_within are.2 in
-      let second = items_back after first.next first.got made_within places rest first.made_is (open_before places (opened ∷ []) first.got.path first.still)
+      let first = items_back inside (front.0 + 1) with_own made_own inner (behind ++ rest) made_now few open_now (counted_item made place line counted) more_within are.2 in
+      let still_few : size final ≤ first.got.limit + 1 = subst (λ (n : ℕ). size final ≤ n + 1) (sym first.limit_is) few in
+      let second = items_back after first.next first.got made_within places rest first.made_is still_few (open_before places (opened ∷ []) first.got.path first.still)
       (counted_items inside made_own inner (counted_item made place line counted)) more are.3 in
       record {
         next = second.next;
@@ -288,9 +292,10 @@ module _ (final : Nodes) (tree : IsTree final) (short : AllByRecursion (λ (node
         goes_on = ap (goes number read) shape ∙ front.1 ∙ step
             ∙ ap (λ l. goes (front.0 + 1) with_own (lines_of_items l inside ++ (behind ++ rest))) deeper ∙ first.goes_on ∙ second.goes_on;
         made_is = second.made_is;
+        limit_is = second.limit_is ∙ first.limit_is;
         still = second.still;
       }
-  items_back (AfterItem before level line end after) number read made places rest same fronts counted more are =
+  items_back (AfterItem before level line end after) number read made places rest same few fronts counted more are =
       let n = node_of_opened (above places level) in
       let at : above read.path level ≡ above places level = open_above places read.path level fronts are.1 in
       let own : Line = record { text = after_text level line; end = end } in
@@ -309,61 +314,64 @@ module _ (final : Nodes) (tree : IsTree final) (short : AllByRecursion (λ (node
       ap (λ r. r >>= (λ x. goes (front.0 + 1) x (behind ++ rest))) (after_taken front.0 level read line fits are.3 takes refuses_not) in
       let made_now : made_of with_own ≡ given =
       after_made front.0 level read line fits are.3 takes ∙ ap (λ o. with_after_item (made_of read) (node_of_opened o) line) at ∙ ap (λ q. with_after_item q n line) same in
-      let second = items_back after (front.0 + 1) with_own given places rest made_now fronts (counted_after made n line counted) more are.4 in
+      let second = items_back after (front.0 + 1) with_own given places rest made_now few fronts (counted_after made n line counted) more are.4 in
       record {
         next = second.next;
         got = second.got;
         goes_on = ap (goes number read) (append_assoc before (own ∷ behind) rest) ∙ front.1 ∙ step ∙ second.goes_on;
         made_is = second.made_is;
+        limit_is = second.limit_is;
         still = second.still;
       }
 
 -- the lines of properties, before the first engine
-abbrev before_engines : Parameters → LinesRead
-before_engines params = with_properties no_lines params
+abbrev before_engines : ℕ → Parameters → LinesRead
+before_engines limit params = with_properties (no_lines limit) params
 
-property_read : (number : ℕ) (params : Parameters) (line : PropertyLine) → IsProperty line.property → with_line number (before_engines params) (property_text line.property) ≡ Ok (before_engines (said_to params line.property))
-property_read number params line is =
+property_read : (limit number : ℕ) (params : Parameters) (line : PropertyLine) → IsProperty line.property
+    → with_line number (before_engines limit params) (property_text line.property) ≡ Ok (before_engines limit (said_to params line.property))
+property_read limit number params line is =
     let text = property_text line.property in
-    let read = before_engines params in
+    let read = before_engines limit params in
     ap (λ b. if b then Ok read else with_words number read text) (property_says line.property)
     ∙ ap (λ r. r >>= (λ l. with_words_on number read l text)) (property_level line.property number)
     ∙ ap (λ b. if b then with_pair number read text else with_declaration number read 0 text) (property_is line.property)
-    ∙ ap (λ r. r >>= (λ p. Ok (before_engines p))) (property_back line.property number params is)
+    ∙ ap (λ r. r >>= (λ p. Ok (before_engines limit p))) (property_back line.property number params is)
 
-properties_back : (number : ℕ) (params : Parameters) (properties : List PropertyLine) (rest : List Line) → AllByRecursion (λ (line : PropertyLine). AllByRecursion SaysNothing line.before × IsProperty line.property) properties
-    → (n : ℕ) × (goes number (before_engines params) (lines_of_properties properties ++ rest) ≡ goes n (before_engines (all_said_to params properties)) rest)
-properties_back number params [] rest h = (number, refl)
-properties_back number params (line ∷ more) rest h =
+properties_back : (limit number : ℕ) (params : Parameters) (properties : List PropertyLine) (rest : List Line) → AllByRecursion (λ (line : PropertyLine). AllByRecursion SaysNothing line.before × IsProperty line.property) properties
+    → (n : ℕ) × (goes number (before_engines limit params) (lines_of_properties properties ++ rest) ≡ goes n (before_engines limit (all_said_to params properties)) rest)
+properties_back limit number params [] rest h = (number, refl)
+properties_back limit number params (line ∷ more) rest h =
     let own : Line = record { text = property_text line.property; end = line.end } in
     let behind = lines_of_properties more ++ rest in
-    let front = passed number (before_engines params) line.before (own ∷ behind) h.0.0 in
-    let next = properties_back (front.0 + 1) (said_to params line.property) more rest h.1 in (
+    let front = passed number (before_engines limit params) line.before (own ∷ behind) h.0.0 in
+    let next = properties_back limit (front.0 + 1) (said_to params line.property) more rest h.1 in (
       next.0,
-      ap (goes number (before_engines params)) (append_assoc line.before (own ∷ lines_of_properties more) rest) ∙ front.1
-          ∙ ap (λ r. r >>= (λ x. goes (front.0 + 1) x behind)) (property_read front.0 params line h.0.1) ∙ next.1,
+      ap (goes number (before_engines limit params)) (append_assoc line.before (own ∷ lines_of_properties more) rest) ∙ front.1
+          ∙ ap (λ r. r >>= (λ x. goes (front.0 + 1) x behind)) (property_read limit front.0 params line h.0.1) ∙ next.1,
     )
 
-suite_back : (written : Written) → IsWritten written → suite_of (text_of_written written) ≡ Ok (meant written)
-suite_back written is =
+suite_back : (most : Option ℕ) (written : Written) → IsWritten most written → suite_of most (text_of_written written) ≡ Ok (meant written)
+suite_back most written is =
+    let limit = node_limit most in
     let params = all_said_to parameters.nothing_said written.properties in
-    let front = properties_back 1 parameters.nothing_said written.properties (lines_of_items 0 written.engines ++ written.after) is.properties in
+    let front = properties_back limit 1 parameters.nothing_said written.properties (lines_of_items 0 written.engines ++ written.after) is.properties in
     let made = with_items (nothing_made params) [] written.engines in
-    let items = items_back made.tree is.tree is.ids written.engines front.0 (before_engines params) (nothing_made params) [] written.after refl (record { fits = omega arith; front = refl }) refl (extends_self made.tree) is.items in
+    let items = items_back made.tree is.tree is.ids written.engines front.0 (before_engines limit params) (nothing_made params) [] written.after refl is.few (record { fits = omega arith; front = refl }) refl (extends_self made.tree) is.items in
     let end = passed items.next items.got written.after [] is.after in
-    suite_small (text_of_written written) is.short
-    ∙ ap (λ ls. suite_from 1 no_lines ls >>= (λ read. Ok (parts_of read))) (lines_back (lines_of_written written) is.lines)
+    suite_small most (text_of_written written) is.short
+    ∙ ap (λ ls. suite_from 1 (no_lines limit) ls >>= (λ read. Ok (parts_of read))) (lines_back (lines_of_written written) is.lines)
     ∙ ap (λ r. r >>= (λ read. Ok (parts_of read))) (front.1 ∙ items.goes_on ∙ ap (goes items.next items.got) (sym (append-nil written.after)) ∙ end.1)
     ∙ ap (λ m. Ok (suite_made m)) items.made_is
 
 -- what gives the suite of a text gives the one that the text is written for
-pub reads_back : (result : Result Suite SuiteFault) (text : List ℕ) → Gives suite_parts result (suite_of text) → (parts : SuiteParts) → IsSuite text parts → Gives suite_parts result (Ok parts)
-reads_back result text gives parts is =
-    subst (Gives suite_parts result) (ap suite_of is.text_is ∙ suite_back is.written is.is_written ∙ ap Ok (sym is.parts_are)) gives
+pub reads_back : (most : Option ℕ) (result : Result Suite SuiteFault) (text : List ℕ) → Gives suite_parts result (suite_of most text) → (parts : SuiteParts) → IsSuite most text parts → Gives suite_parts result (Ok parts)
+reads_back most result text gives parts is =
+    subst (Gives suite_parts result) (ap (suite_of most) is.text_is ∙ suite_back most is.written is.is_written ∙ ap Ok (sym is.parts_are)) gives
 
 -- and so for bytes that are a text, behind a byte order mark or none
-pub reads_bytes_back : (result : Result Suite SuiteFault) (bytes : List ℕ) → Gives suite_parts result (suite_read bytes) → IsUtf8 bytes → length bytes ≤ 1048576 → (parts : SuiteParts) → IsSuite (without_mark bytes) parts
-    → Gives suite_parts result (Ok parts)
-reads_bytes_back result bytes gives text few parts is =
-    let small : nat_lt 1048576 (length bytes) ≡ false = search (rules, tests) in
-    reads_back result (without_mark bytes) (subst (Gives suite_parts result) (read_text bytes small text) gives) parts is
+pub reads_bytes_back : (most : Option ℕ) (result : Result Suite SuiteFault) (bytes : List ℕ) → Gives suite_parts result (suite_read most bytes) → IsUtf8 bytes → length bytes ≤ byte_limit most → (parts : SuiteParts)
+    → IsSuite most (without_mark bytes) parts → Gives suite_parts result (Ok parts)
+reads_bytes_back most result bytes gives text few parts is =
+    let small : nat_lt (byte_limit most) (length bytes) ≡ false = le-ltb (byte_limit most) (length bytes) few in
+    reads_back most result (without_mark bytes) (subst (Gives suite_parts result) (read_text most bytes small text) gives) parts is

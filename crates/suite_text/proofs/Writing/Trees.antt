@@ -5,7 +5,7 @@ use Rattle.std.specs.Prelude.{slice_get, slice_index_or}
 use Rattle.std.specs.List.{list_any, AllByRecursion}
 use Rattle.std.specs.Option.{is_none}
 use Rattle.std.specs.Str.{bytes_eq}
-use Rattle.std.proofs.lemmas.Bool.{ne_eqb, eqb-true}
+use Rattle.std.proofs.lemmas.Bool.{ne_eqb, eqb-true, le-ltb}
 use Rattle.std.proofs.lemmas.List.{append_assoc}
 use Rattle.std.proofs.lemmas.Slice.Eq.{bytes_eq-Decides}
 use Rattle.unique_id.specs.declared.unique_id.Segment.{Segment}
@@ -309,10 +309,10 @@ module _ (t u : Nodes) (a : ℕ) (node : Node) (len : length t.nodes + 1 ≡ siz
     short : is_over_limit node ≡ false
     short = sym (told_here over_or (λ x y e. ap (λ m. over_or (Some m)) e)) ∙ not_over (node_at u (size t)) (tree.short (size t))
 
-    takes_next : refusal t a node ≡ None
-    takes_next =
+    takes_next : (limit : ℕ) → size u ≤ limit + 1 → refusal limit t a node ≡ None
+    takes_next limit few =
         let shallow = tree.shallow (size t) inside in
-        pass_by _ _ _ (ne_eqb (size t) 4096 (λ e. let few = tree.few in omega (arith, e, few, inside))) (
+        pass_by _ _ _ (le-ltb limit (size t) (omega (arith, few, inside))) (
         pass_by _ _ _ (ne_eqb (depth_of t a) 64 (λ e. omega (arith, e, shallow, depth_here))) (
         pass_by _ _ _ new_id (
         pass_by _ _ _ container (
@@ -322,8 +322,8 @@ module _ (t u : Nodes) (a : ℕ) (node : Node) (len : length t.nodes + 1 ≡ siz
         pass_by _ _ _ short (
         pass_by _ _ _ after_placed refl))))))))
 
-pub taken_next : (t u : Nodes) (a : ℕ) (node : Node) → length t.nodes + 1 ≡ size t → Extends (appended t a node) u → IsTree u → refusal t a node ≡ None
-taken_next t u a node len more tree = takes_next t u a node len more tree
+pub taken_next : (limit : ℕ) (t u : Nodes) (a : ℕ) (node : Node) → length t.nodes + 1 ≡ size t → Extends (appended t a node) u → IsTree u → size u ≤ limit + 1 → refusal limit t a node ≡ None
+taken_next limit t u a node len more tree few = takes_next t u a node len more tree limit few
 
 -- an after-body of a tree is one that the nodes before it take
 given_there : (b i : ℕ) (xs : List Node) → may_get_after_or (slice_get xs i) ≡ true → after_or (slice_get (given_after_at b i xs) i) ≡ Some b

@@ -10,7 +10,7 @@ pub record DoesFor (node whole : Node) : Type 0 where
   pub locks : StandFor node.locks whole.locks
   pub rest : node ≡ record whole { locks = node.locks }
 
--- below node a it is refused as the other is, and where it is not refused it is the other
-pub record IsTakenAs (t : Nodes) (a : ℕ) (node whole : Node) : Type 0 where
-  pub refused : refusal t a node ≡ refusal t a whole
-  pub taken : refusal t a node ≡ None → node ≡ whole
+-- below node a, where there may be so many nodes, it is refused as the other is, and where it is not refused it is the other
+pub record IsTakenAs (limit : ℕ) (t : Nodes) (a : ℕ) (node whole : Node) : Type 0 where
+  pub refused : refusal limit t a node ≡ refusal limit t a whole
+  pub taken : refusal limit t a node ≡ None → node ≡ whole

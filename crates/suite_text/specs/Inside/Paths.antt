@@ -1,5 +1,5 @@
 -- Definitions that only proofs need: what holds from line to line of the path, the scripts and the unique ids.
-use Rattle.std.specs.Prelude.{◌≡◌, ℕ, ◌+◌, List, [], ◌∷◌, map}
+use Rattle.std.specs.Prelude.{◌≡◌, ◌≤◌, ℕ, ◌+◌, List, [], ◌∷◌, map}
 use Rattle.std.specs.List.Sorted.{IsPermutation}
 use Rattle.descriptor.specs.Nodes.{Nodes, size, IsChild}
 use Rattle.suite_text.specs.declared.suite.builder.Opened.{Opened}
@@ -16,8 +16,9 @@ IsPath t a (opened ∷ rest) = IsChild t a opened.node × IsPath t opened.node r
 abbrev pub bodies_pending : List Pending → List ℕ
 bodies_pending scripts = map (λ pending. pending.script.body) scripts
 
--- what holds after each line: the path leads down from the plan, each body and after-body has one script, and unique ids follow the tree
+-- what holds after each line: there are no more nodes than there may be, the path leads down from the plan, each body and after-body has one script, and unique ids follow the tree
 pub record IsSound (read : LinesRead) : Type 0 where
+  pub few : size read.tree ≤ read.limit + 1
   pub has_path : IsPath read.tree 0 read.path
   pub answered : bodies_pending read.scripts ≡ bodies_of read.tree.nodes
   pub afters : IsPermutation (afters_of read.tree.nodes) (bodies_answered read.afters)

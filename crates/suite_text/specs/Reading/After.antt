@@ -29,6 +29,7 @@ class_of number t (Some opened) = if is_class opened.word && is_none (after_of t
 -- with the after-body of node n, which ends so
 abbrev pub with_after_body : LinesRead → ℕ → Status × List ℕ → LinesRead
 with_after_body read n said = record {
+  limit = read.limit;
   tree = with_after read.tree n (after_body n);
   path = read.path;
   scripts = read.scripts;

@@ -34,11 +34,12 @@ is_over_limit_on read level d = is_over_limit (id_at read.tree (parent_on read l
 
 -- why it is refused: an id over its limits first, then what the tree refuses
 abbrev pub refusal_on : LinesRead → ℕ → Declaration → Option TreeFault
-refusal_on read level d = cond (is_over_limit_on read level d) (Some OverLimit) (trees.refusal read.tree (parent_on read level) (node_on read level d))
+refusal_on read level d = cond (is_over_limit_on read level d) (Some OverLimit) (trees.refusal read.limit read.tree (parent_on read level) (node_on read level d))
 
 -- with the node that is declared on a level
 abbrev pub grown : LinesRead → ℕ → Declaration → LinesRead
 grown read level d = record {
+  limit = read.limit;
   tree = appended read.tree (parent_on read level) (node_on read level d);
   path = take level read.path ++ record { node = size read.tree; word = d.word } ∷ [];
   scripts = read.scripts ++ option_to_list (script_declared d (size read.tree));

@@ -28,8 +28,9 @@ pub record Made : Type 0 where
 abbrev pub suite_made : Made → SuiteParts
 suite_made made = record { tree = made.tree; scripts = map (settled made.tree) made.scripts ++ made.afters; properties = made.properties }
 
--- so far: `path` has the last node line's node and those above it, from level 0 on
+-- so far, where there may be so many nodes besides the plan: `path` has the last node line's node and those above it, from level 0 on
 pub record LinesRead : Type 0 where
+  pub limit : ℕ
   pub tree : Nodes
   pub path : List Opened
   pub scripts : List Pending
@@ -37,10 +38,10 @@ pub record LinesRead : Type 0 where
   pub properties : Parameters
 
 -- before the first line
-abbrev pub no_lines : LinesRead
-no_lines = record { tree = plan_alone; path = []; scripts = []; afters = []; properties = nothing_said }
+abbrev pub no_lines : ℕ → LinesRead
+no_lines limit = record { limit = limit; tree = plan_alone; path = []; scripts = []; afters = []; properties = nothing_said }
 
--- without the path
+-- without the limit and the path
 abbrev pub made_of : LinesRead → Made
 made_of read = record { tree = read.tree; scripts = read.scripts; afters = read.afters; properties = read.properties }
 

@@ -1,5 +1,5 @@
 -- What may be written as a suite: nodes that stand in nodes, each with its line, and after-bodies, the texts that spell it, and the suite that it means.
-use Rattle.std.specs.Prelude.{◌≡◌, ◌≢◌, ◌<◌, ◌≤◌, ℕ, suc, ◌-◌, ◌==◌, ◌⊎◌, true, false, List, [], ◌∷◌, ◌++◌, length, slice_index, Option, option_to_list}
+use Rattle.std.specs.Prelude.{◌≡◌, ◌≢◌, ◌<◌, ◌≤◌, ℕ, suc, ◌+◌, ◌-◌, ◌==◌, ◌⊎◌, true, false, List, [], ◌∷◌, ◌++◌, length, slice_index, Option, option_to_list}
 use Rattle.std.specs.List.{AllByRecursion, flat_map}
 use Rattle.config_params.specs.Parameters.{Parameters, nothing_said}
 use Rattle.descriptor.specs.declared.node.Node.{Node}
@@ -7,6 +7,7 @@ use Rattle.descriptor.specs.Nodes.{IsTree, plan_alone, size, appended}
 use Rattle.unique_id.specs.declared.unique_id.Segment.{Segment}
 use Rattle.unique_id.specs.Spelling.{spelling}
 use Rattle.suite_text.specs.declared.suite.builder.Opened.{Opened}
+use Rattle.suite_words.specs.Limits.{node_limit, byte_limit}
 use Rattle.suite_words.specs.Reading.Nodes.{id_at, next_place, node_declared, script_declared}
 use Rattle.suite_text.specs.Reading.Parts.{SuiteParts, Made, suite_made, above, word_of_opened, node_of_opened}
 use Rattle.suite_words.specs.Words.{is_space}
@@ -145,19 +146,20 @@ AreItems made places (AfterItem before level line end after) =
 abbrev pub IsShortId : List Segment → Type 0
 IsShortId id = (length id ≤ 64) × (length (spelling id) ≤ 1024)
 
--- a suite may be written so: each line may stand where it stands, and what they mean is a tree, with no id twice and nothing too long
-pub record IsWritten (written : Written) : Type 0 where
+-- a suite may be written so, where so many nodes were asked for: each line may stand where it stands, and what they mean is a tree, with no id twice and nothing too long
+pub record IsWritten (most : Option ℕ) (written : Written) : Type 0 where
   pub properties : AllByRecursion (λ line. AllByRecursion SaysNothing line.before × IsProperty line.property) written.properties
   pub items : AreItems (before_engines written) [] written.engines
   pub after : AllByRecursion SaysNothing written.after
   pub lines : AreLines (lines_of_written written)
   pub tree : IsTree (meant written).tree
+  pub few : size (meant written).tree ≤ node_limit most + 1
   pub ids : AllByRecursion (λ node. IsShortId node.id) (meant written).tree.nodes
-  pub short : length (text_of_written written) ≤ 1048576
+  pub short : length (text_of_written written) ≤ byte_limit most
 
--- the text is one that may be written for this suite
-pub record IsSuite (text : List ℕ) (parts : SuiteParts) : Type 0 where
+-- the text is one that may be written for this suite, where so many nodes were asked for
+pub record IsSuite (most : Option ℕ) (text : List ℕ) (parts : SuiteParts) : Type 0 where
   pub written : Written
-  pub is_written : IsWritten written
+  pub is_written : IsWritten most written
   pub text_is : text ≡ text_of_written written
   pub parts_are : parts ≡ meant written

@@ -5,7 +5,7 @@ ghost use Rattle.std.specs.Prelude.{Ok, false, true, [], ◌∷◌, ◌++◌, ta
 
 use crate::suite::Suite;
 use config_params::Params;
-use descriptor::{BodyId, Locks, MOST_NODES, Node, NodeId, Tree, TreeBuilder, TreeFault};
+use descriptor::{BodyId, Locks, Node, NodeId, NodeLimit, Tree, TreeBuilder, TreeFault};
 use plan_events::Status;
 use std::alloc::{AllocError, Global};
 use std::marker::Model;
@@ -15,9 +15,6 @@ use suite_words::{
 };
 use unique_id::{Text, UidFault, UniqueId};
 
-/// The number of a node's after-body, less the node's own: above all numbers of nodes.
-const FIRST_AFTER: u16 = 8_192;
-
 /// A node that the next line may hang below, and the keyword of its line.
 #[derive(Clone, Copy)]
 pub(crate) struct Opened {
@@ -25,9 +22,10 @@ pub(crate) struct Opened {
     pub(crate) word: Word,
 }
 
-/// The tree, the scripts and the properties of the lines so far, and the last node with those
-/// above it.
+/// The tree, the scripts and the properties of the lines so far, the last node with those above it,
+/// and how many nodes there may be.
 pub(crate) struct SuiteBuilder {
+    limit: NodeLimit,
     tree: TreeBuilder,
     path: Vec<Opened>,
     scripts: Vec<Pending>,
@@ -39,6 +37,7 @@ pub(crate) struct SuiteBuilder {
 impl Drop for SuiteBuilder {
     fn drop(self) {
         let SuiteBuilder {
+            limit: _,
             tree: _,
             path: _,
             scripts: _,
@@ -55,6 +54,7 @@ impl Model for SuiteBuilder {
     ghost Value = { LinesRead };
 
     ghost view = { λ b. record {
+      limit = b.limit;
       tree = b.tree;
       path = b.path.items;
       scripts = b.scripts.items;
@@ -65,6 +65,7 @@ impl Model for SuiteBuilder {
 
     ghost invariant = { λ b. IsSound
         (record {
+          limit = b.limit;
           tree = b.tree;
           path = b.path.items;
           scripts = b.scripts.items;
@@ -286,9 +287,10 @@ struct NewNode {
     script: Option<Pending>,
 }
 
-/// Adds a node below this one, and its script, for which there is room.
+/// Adds a node below this one, where there may be so many, and its script, for which there is room.
 fn hang(
     alloc: Global,
+    limit: NodeLimit,
     tree: &mut TreeBuilder,
     scripts: &mut Vec<Pending>,
     parent: NodeId,
@@ -297,23 +299,24 @@ fn hang(
     requires taken { MayTake tree.old parent }
     requires room { vec_len scripts.old < vec_capacity scripts.old }
     ensures number { IfOk result (λ number. number ≡ size tree.old) }
-    ensures accepted { OnOk result (tree_refusal tree.old parent made.node ≡ None) }
+    ensures accepted { OnOk result (tree_refusal limit tree.old parent made.node ≡ None) }
     ensures tree { OnOk result (tree.new ≡ appended tree.old parent made.node) }
     ensures scripts { OnOk result (scripts.new.items ≡ scripts.old.items ++ option_to_list made.script) }
-    ensures refused { IfErr result (λ fault. fault ≢ TreeFault.NoMemory → tree_refusal tree.old parent made.node ≡ Some
+    ensures refused { IfErr result (λ fault. fault ≢ TreeFault.NoMemory → tree_refusal limit tree.old parent made.node ≡ Some
         fault) }
     ensures tree_kept { OnErr result (tree.new ≡ tree.old) }
     ensures scripts_kept { OnErr result (scripts.new.items ≡ scripts.old.items) }
 {
     let NewNode { node, script, .. } = made;
-    let number = tree.add(alloc, parent, node)?;
+    let number = tree.add(alloc, limit, parent, node)?;
     push_script(scripts, script);
     Ok(number)
 }
 
-/// Adds a node below this one, on this level of the path, and its script.
+/// Adds a node below this one, where there may be so many, on this level of the path, and its script.
 fn grow(
     alloc: Global,
+    limit: NodeLimit,
     tree: &mut TreeBuilder,
     path: &mut Vec<Opened>,
     scripts: &mut Vec<Pending>,
@@ -322,12 +325,12 @@ fn grow(
     made: NewNode,
 ) -> Result<(), TreeFault>
     requires { MayTake tree.old parent }
-    ensures accepted { OnOk result (tree_refusal tree.old parent made.node ≡ None) }
+    ensures accepted { OnOk result (tree_refusal limit tree.old parent made.node ≡ None) }
     ensures tree { OnOk result (tree.new ≡ appended tree.old parent made.node) }
     ensures path { OnOk result (path.new.items ≡ take level path.old.items
         ++ record { node = size tree.old; word = made.word } ∷ []) }
     ensures scripts { OnOk result (scripts.new.items ≡ scripts.old.items ++ option_to_list made.script) }
-    ensures refused { IfErr result (λ fault. fault ≢ TreeFault.NoMemory → tree_refusal tree.old parent made.node ≡ Some
+    ensures refused { IfErr result (λ fault. fault ≢ TreeFault.NoMemory → tree_refusal limit tree.old parent made.node ≡ Some
         fault) }
     ensures tree_kept { OnErr result (tree.new ≡ tree.old) }
     ensures path_kept { OnErr result (path.new.items ≡ path.old.items) }
@@ -339,7 +342,7 @@ fn grow(
         return Err(TreeFault::from(fault));
     }
     let word = made.word;
-    let node = hang(alloc, tree, scripts, parent, made)?;
+    let node = hang(alloc, limit, tree, scripts, parent, made)?;
     open_on(path, level, Opened { node, word });
     Ok(())
 }
@@ -354,7 +357,7 @@ fn give_after(
     text: &str,
 ) -> Result<(), TreeFault>
     requires inside { class < size tree.old }
-    requires few { class < 4096 }
+    requires few { class < 16384 }
     ensures accepted { OnOk result (after_refusal tree.old class (after_body class) ≡ None) }
     ensures tree { OnOk result (tree.new ≡ with_after tree.old class (after_body class)) }
     ensures afters { OnOk result (afters.new.items ≡ afters.old.items
@@ -364,7 +367,7 @@ fn give_after(
     ensures tree_kept { OnErr result (tree.new ≡ tree.old) }
     ensures afters_kept { OnErr result (afters.new.items ≡ afters.old.items) }
 {
-    let body = BodyId::new(FIRST_AFTER + class.number());
+    let body = BodyId::after(class);
     afters.reserve(1)?;
     let script = Script::ending(alloc, body, 0, None, 0, status, text)?;
     tree.set_after(class, body)?;
@@ -417,14 +420,19 @@ impl SuiteBuilder {
     ghost use Rattle.suite_text.specs.Suites.{with_words, with_line, suite_from, suite_parts};
     ghost use Rattle.unique_id.specs.Answers.{texts};
 
-    /// Before the first line, with room for the nodes of so many lines, though for no more than a tree may have.
-    pub(crate) fn new(alloc: Global, lines: usize) -> Result<SuiteBuilder, AllocError>
-        ensures { IfOk result (λ b. b ≡ no_lines) }
+    /// Before the first line, with room for the nodes of so many lines, though for no more than there may be.
+    pub(crate) fn new(
+        alloc: Global,
+        limit: NodeLimit,
+        lines: usize,
+    ) -> Result<SuiteBuilder, AllocError>
+        ensures { IfOk result (λ b. b ≡ no_lines limit) }
     {
-        let nodes = lines.min(MOST_NODES);
+        let nodes = lines.min(limit.nodes());
         let tree = TreeBuilder::with_capacity(alloc, nodes)?;
         let scripts = Vec::with_capacity(alloc, nodes)?;
         Ok(SuiteBuilder {
+            limit,
             tree,
             path: Vec::new(alloc),
             scripts,
@@ -518,6 +526,7 @@ impl SuiteBuilder {
         let made = self.made_on(alloc, level, declared)?;
         grow(
             alloc,
+            self.limit,
             &mut self.tree,
             &mut self.path,
             &mut self.scripts,
@@ -560,7 +569,7 @@ impl SuiteBuilder {
         requires { level ≤ length self.now.path }
         ensures exact { Gives (λ node. node) result (class_of number self.now.tree (above self.now.path level)) }
         ensures inside { IfOk result (λ node. (0 < node) × (node < size self.now.tree)) }
-        ensures few { IfOk result (λ node. node < 4096) }
+        ensures few { IfOk result (λ node. node < 16384) }
         ensures real { IfErr result (λ fault. fault ≢ SuiteFault.NoMemory) }
     {
         let Some(opened) = self.above(level) else {
@@ -581,7 +590,7 @@ impl SuiteBuilder {
         text: &str,
     ) -> Result<(), TreeFault>
         requires inside { (0 < class) × (class < size self.old.tree) }
-        requires few { class < 4096 }
+        requires few { class < 16384 }
         ensures accepted { OnOk result (after_refusal self.old.tree class (after_body class) ≡ None) }
         ensures set { OnOk result (self.new ≡ with_after_body self.old class (status, text.now)) }
         ensures refused { IfErr result (λ fault. fault ≢ TreeFault.NoMemory → after_refusal self.old.tree class
@@ -723,10 +732,12 @@ impl SuiteBuilder {
     pub(crate) fn finish(self, alloc: Global) -> Result<Suite, AllocError>
         ensures parts { IfOk result (λ suite. suite_parts suite ≡ parts_of self) }
         ensures tree { IfOk result (λ suite. IsTree suite.tree) }
+        ensures few { IfOk result (λ suite. size suite.tree ≤ self.limit + 1) }
         ensures ids { IfOk result (λ suite. IdsFollow suite.tree) }
         ensures answered { IfOk result (λ suite. AreBodiesOf suite.tree.nodes (bodies_answered suite.scripts.items)) }
     {
         let SuiteBuilder {
+            limit: _,
             tree,
             path: _,
             scripts,

@@ -1,6 +1,6 @@
 //! The first line that says something, which is judged before any memory is taken.
 
-ghost use Rattle.std.specs.Prelude.{◌≡◌, ◌≢◌, IfOk, IfErr, Err, None};
+ghost use Rattle.std.specs.Prelude.{◌≡◌, ◌≢◌, ℕ, IfOk, IfErr, Err, None};
 ghost use Rattle.std.specs.Str.Lines.{lines};
 ghost use Rattle.suite_words.specs.Reading.Judged.{judged_property, judged_node};
 ghost use Rattle.suite_text.specs.Reading.Judged.{judged_words, MayRunOut};
@@ -38,7 +38,7 @@ fn judge_node(number: usize, first: &str, rest: &str) -> Result<(), SuiteFault>
 /// Judges a line that says something, with so many spaces in front, before which nothing was said.
 fn judge_words(number: usize, indentation: usize, line: &str) -> Result<(), SuiteFault>
     requires { indentation ≡ indentation_of line.now }
-    ensures { result ≡ judged_words number no_lines line.now }
+    ensures { (limit : ℕ) → result ≡ judged_words number (no_lines limit) line.now }
 {
     level_at(number, 0, indentation)?;
     if is_property(line) {
@@ -51,11 +51,12 @@ fn judge_words(number: usize, indentation: usize, line: &str) -> Result<(), Suit
     judge_node(number, first, rest)
 }
 
-/// Judges the first line that says something: a property's as a whole, a node's up to its name.
+/// Judges the first line that says something: a property's as a whole, a node's up to its name. How many nodes there may
+/// be does not matter to it.
 pub(crate) fn judge_first(text: &str) -> Result<(), SuiteFault>
-    ensures refused { IfErr result (λ fault. suite_of_lines (lines text.now) ≡ Err fault) }
+    ensures refused { IfErr result (λ fault. (limit : ℕ) → suite_of_lines limit (lines text.now) ≡ Err fault) }
     ensures real { IfErr result (λ fault. fault ≢ SuiteFault.NoMemory) }
-    ensures judged { IfOk result (λ _. MayRunOut 1 no_lines (lines text.now)) }
+    ensures judged { IfOk result (λ _. (limit : ℕ) → MayRunOut 1 (no_lines limit) (lines text.now)) }
 {
     let mut number = 1;
     for line in text.lines() {

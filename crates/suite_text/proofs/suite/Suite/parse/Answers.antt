@@ -8,19 +8,19 @@ use Rattle.suite_text.proofs.Writing.Suites as written
 use Rattle.suite_text.proofs.suite.Suite.parse.Goals as goal
 
 pub returns-clause-reads_back : goal.returns-clause-reads_back
-returns-clause-reads_back c = written.reads_back _ c.args.text.now c.suite_in.ensures.exact
+returns-clause-reads_back c = written.reads_back c.args.most _ c.args.text.now c.suite_in.ensures.exact
 
 pub returns-clause-written : goal.returns-clause-written
-returns-clause-written c = given_written c.args.text.now _ c.suite_in.ensures.exact c.suite_in.ensures.tree
+returns-clause-written c = given_written c.args.most c.args.text.now _ c.suite_in.ensures.exact c.suite_in.ensures.tree c.suite_in.ensures.few
 
 pub returns-clause-never : goal.returns-clause-never
-returns-clause-never c = never_no_memory c.args.text.now
+returns-clause-never c = never_no_memory c.args.most c.args.text.now
 
 pub returns-clause-kinds : goal.returns-clause-kinds
-returns-clause-kinds c = suite_kinds c.args.text.now _ c.suite_in.ensures.exact
+returns-clause-kinds c = suite_kinds c.args.most c.args.text.now _ c.suite_in.ensures.exact
 
 pub returns-clause-bodies : goal.returns-clause-bodies
-returns-clause-bodies c = suite_bodies c.args.text.now _ c.suite_in.ensures.exact
+returns-clause-bodies c = suite_bodies c.args.most c.args.text.now _ c.suite_in.ensures.exact
 
 pub returns-clause-bare : goal.returns-clause-bare
-returns-clause-bare c = given_bare _ (suite_of c.args.text.now) c.suite_in.ensures.exact (suite_bare c.args.text.now)
+returns-clause-bare c = given_bare _ (suite_of c.args.most c.args.text.now) c.suite_in.ensures.exact (suite_bare c.args.most c.args.text.now)

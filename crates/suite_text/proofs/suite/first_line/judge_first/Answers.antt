@@ -1,5 +1,5 @@
 -- The first line that says something is judged as the first of all.
-use Rattle.std.proofs.Common.{rules, ◌≡◌, ◌∙◌, ◌+◌, List, ℕ, ◌∷◌, length, ap, sym, subst, refl, arith, true, false}
+use Rattle.std.proofs.Common.{rules, ◌≡◌, ◌∙◌, ◌+◌, length, ap, sym, subst, refl, arith, true, false}
 use Rattle.std.specs.Str.Iter.{lines_rest}
 use Rattle.std.specs.Str.Lines.{lines}
 use Rattle.config_params.proofs.Lines.{all_left, one_given, none_left, one_fewer, lines_few}
@@ -11,7 +11,7 @@ use Rattle.suite_text.proofs.Reading.Judged.{skipped, skipped_out, first_judged}
 use Rattle.suite_text.proofs.suite.first_line.judge_first.Goals as goal
 
 pub loop-line-init : goal.loop-line-init
-loop-line-init c = (tt, tt, (lines c.args.text.now, all_left _ c.args.text.now (ap lines_rest c.into_iter-line-iterator.ensures.into_iter_gives ∙ c.lines-line-items.ensures.rest), refl, (λ h. h), refl))
+loop-line-init c = (tt, tt, (lines c.args.text.now, all_left _ c.args.text.now (ap lines_rest c.into_iter-line-iterator.ensures.into_iter_gives ∙ c.lines-line-items.ensures.rest), (λ limit. refl), (λ limit h. h), refl))
 
 pub loop-line-preserved : goal.loop-line-preserved
 loop-line-preserved c =
@@ -25,8 +25,8 @@ loop-line-preserved c =
       (
         g.0,
         g.2,
-        skipped c.loop-line.number c.in-Some.line.now g.0 _ says (ap (suite_from c.loop-line.number no_lines) (sym g.1) ∙ i.2),
-        (λ out. i.3 (subst (MayRunOut c.loop-line.number no_lines) (sym g.1) (skipped_out c.loop-line.number c.in-Some.line.now g.0 says out))),
+        (λ limit. skipped limit c.loop-line.number c.in-Some.line.now g.0 _ says (ap (suite_from c.loop-line.number (no_lines limit)) (sym g.1) ∙ i.2 limit)),
+        (λ limit out. i.3 limit (subst (MayRunOut c.loop-line.number (no_lines limit)) (sym g.1) (skipped_out limit c.loop-line.number c.in-Some.line.now g.0 says out))),
         omega (arith, left, count),
       ),
     )
@@ -36,24 +36,24 @@ returns-then-not-says_nothing-clause-refused c =
     let i = c.loop-line.invariant.2 in
     let g = one_given c.loop-line.line-iterator c.next.new.self c.in-Some.line i.0 i.1 c.in-Some.ensures.steps in
     let says : says_nothing c.in-Some.line.now ≡ false = search rules in
-    (first_judged c.loop-line.number c.in-Some.line.now g.0 (lines c.args.text.now) c.judge_words.result c.judge_words.ensures says (ap (suite_from c.loop-line.number no_lines) (sym g.1) ∙ i.2)
-    (λ out. i.3 (subst (MayRunOut c.loop-line.number no_lines) (sym g.1) out))).refused
+    (first_judged c.loop-line.number c.in-Some.line.now g.0 (lines c.args.text.now) c.judge_words.result c.judge_words.ensures says (λ limit. ap (suite_from c.loop-line.number (no_lines limit)) (sym g.1) ∙ i.2 limit)
+    (λ limit out. i.3 limit (subst (MayRunOut c.loop-line.number (no_lines limit)) (sym g.1) out))).refused
 
 pub returns-then-not-says_nothing-clause-real : goal.returns-then-not-says_nothing-clause-real
 returns-then-not-says_nothing-clause-real c =
     let i = c.loop-line.invariant.2 in
     let g = one_given c.loop-line.line-iterator c.next.new.self c.in-Some.line i.0 i.1 c.in-Some.ensures.steps in
     let says : says_nothing c.in-Some.line.now ≡ false = search rules in
-    (first_judged c.loop-line.number c.in-Some.line.now g.0 (lines c.args.text.now) c.judge_words.result c.judge_words.ensures says (ap (suite_from c.loop-line.number no_lines) (sym g.1) ∙ i.2)
-    (λ out. i.3 (subst (MayRunOut c.loop-line.number no_lines) (sym g.1) out))).real
+    (first_judged c.loop-line.number c.in-Some.line.now g.0 (lines c.args.text.now) c.judge_words.result c.judge_words.ensures says (λ limit. ap (suite_from c.loop-line.number (no_lines limit)) (sym g.1) ∙ i.2 limit)
+    (λ limit out. i.3 limit (subst (MayRunOut c.loop-line.number (no_lines limit)) (sym g.1) out))).real
 
 pub returns-then-not-says_nothing-clause-judged : goal.returns-then-not-says_nothing-clause-judged
 returns-then-not-says_nothing-clause-judged c =
     let i = c.loop-line.invariant.2 in
     let g = one_given c.loop-line.line-iterator c.next.new.self c.in-Some.line i.0 i.1 c.in-Some.ensures.steps in
     let says : says_nothing c.in-Some.line.now ≡ false = search rules in
-    (first_judged c.loop-line.number c.in-Some.line.now g.0 (lines c.args.text.now) c.judge_words.result c.judge_words.ensures says (ap (suite_from c.loop-line.number no_lines) (sym g.1) ∙ i.2)
-    (λ out. i.3 (subst (MayRunOut c.loop-line.number no_lines) (sym g.1) out))).judged
+    (first_judged c.loop-line.number c.in-Some.line.now g.0 (lines c.args.text.now) c.judge_words.result c.judge_words.ensures says (λ limit. ap (suite_from c.loop-line.number (no_lines limit)) (sym g.1) ∙ i.2 limit)
+    (λ limit out. i.3 limit (subst (MayRunOut c.loop-line.number (no_lines limit)) (sym g.1) out))).judged
 
 pub overflow_add-number : goal.overflow_add-number
 overflow_add-number c =
@@ -67,4 +67,4 @@ overflow_add-number c =
 pub returns-clause-judged : goal.returns-clause-judged
 returns-clause-judged c =
     let i = c.loop-line.invariant.2 in
-    i.3 (subst (MayRunOut c.loop-line.number no_lines) (sym (none_left c.loop-line.line-iterator c.next.new.self i.0 i.1 c.in-None.ensures.steps)) tt)
+    λ limit. i.3 limit (subst (MayRunOut c.loop-line.number (no_lines limit)) (sym (none_left c.loop-line.line-iterator c.next.new.self i.0 i.1 c.in-None.ensures.steps)) tt)

@@ -33,9 +33,9 @@ returns-clause-added c =
     let scripts : c.grow.new.scripts.items ≡ read.scripts ++ option_to_list (script_declared (declaration_of c.args.declared) (size read.tree)) =
     c.in_ok-grow.ensures.scripts ∙ ap₂ (λ (r : LinesRead) (s : Option Pending). r.scripts ++ option_to_list s) c.self.view_is c.in_ok-made.ensures.script in
     grown_is read _ level (declaration_of c.args.declared) c.node_or_plan-parent.result c.in_ok-made.made.node c.self.view_is
-    (c.node_or_plan-parent.ensures ∙ ap node_of_opened c.above.ensures.above) c.in_ok-made.ensures.node _ c.in_ok-grow.ensures.accepted c.in_ok-grow.ensures.tree path scripts refl refl
+    (c.node_or_plan-parent.ensures ∙ ap node_of_opened c.above.ensures.above) c.in_ok-made.ensures.node _ refl c.in_ok-grow.ensures.accepted c.in_ok-grow.ensures.tree path scripts refl refl
 
 pub invariant_of-self-2 : goal.invariant_of-self-2
 invariant_of-self-2 c =
     subst IsSound (sym (returns-clause-added c))
-    (grown_sound c.args.self.now c.args.level (declaration_of c.args.declared) (subst IsSound c.self.view_is c.self.invariant) c.in_ok-made.ensures.tree c.requires)
+    (grown_sound c.args.self.now c.args.level (declaration_of c.args.declared) (subst IsSound c.self.view_is c.self.invariant) c.in_ok-made.ensures.tree c.requires (returns-clause-accepted c))

@@ -9,7 +9,7 @@ use Rattle.suite_text.proofs.suite.builder.SuiteBuilder.set_after.Goals as goal
 
 pub returns-clause-set : goal.returns-clause-set
 returns-clause-set c =
-    after_is c.args.self.now _ _ c.args.class c.args.status c.args.text.now c.self.view_is c.in_ok-give_after.ensures.tree refl refl c.in_ok-give_after.ensures.afters refl
+    after_is c.args.self.now _ _ c.args.class c.args.status c.args.text.now c.self.view_is refl c.in_ok-give_after.ensures.tree refl refl c.in_ok-give_after.ensures.afters refl
 
 pub invariant_of-self-2 : goal.invariant_of-self-2
 invariant_of-self-2 c =
