@@ -30,12 +30,12 @@ always (Ok x) P p = p
 always (Err e) P p = tt
 
 module _ {B : Type 0} where
-  pub grown_is : (t seen u : Nodes) (jobs kept more : List (ℕ × B)) (marks cleared : Marks) (body taken : Option B) (a : ℕ) (sort : Sort) (name : List ℕ) (node : Node) (number : Option ℕ)
+  pub grown_is : (limit : ℕ) (t seen u : Nodes) (jobs kept more : List (ℕ × B)) (marks cleared : Marks) (body taken : Option B) (a : ℕ) (sort : Sort) (name : List ℕ) (node : Node) (number : Option ℕ)
       → seen ≡ t → kept ≡ jobs → number ≡ option_map (λ _. size seen) body
       → node ≡ marked marks sort (id_at seen a ++ record { kind = type_of sort; value = value_below seen a sort name } ∷ []) name number
       → u ≡ appended t a node → more ≡ kept ++ job_of (size t) body → cleared ≡ no_marks → taken ≡ None
-      → built u more cleared taken ≡ grown (built t jobs marks body) a sort name
-  grown_is t seen u jobs kept more marks cleared body taken a sort name node number h1 h2 h3 h4 h5 h6 h7 h8 = rw (h7, h8, h6, h5, h4, h3, h2, h1) refl
+      → built limit u more cleared taken ≡ grown (built limit t jobs marks body) a sort name
+  grown_is limit t seen u jobs kept more marks cleared body taken a sort name node number h1 h2 h3 h4 h5 h6 h7 h8 = rw (h7, h8, h6, h5, h4, h3, h2, h1) refl
 
   -- a dynamic test was added, and counted
   pub dynamic_added : (change : B → B) (P : B → Type 0) (old new : Built B) (a n : ℕ) (name : List ℕ) (body : B) → n ≡ a → is_unmarked old.marks ≡ true → old.body ≡ None → P body → IsNodeTaken (with_body old body) n Dynamic name
@@ -48,10 +48,10 @@ module _ {B : Type 0} where
   })
 
   -- an after-body was given, or nothing
-  pub given_both : {X E : Type 0} (r : Result X E) (b : Built B) (n : ℕ) (body : B) (t : Nodes) (jobs : List (ℕ × B)) → OnOk r (t ≡ with_after b.tree n (after_body n)) → OnOk r (jobs ≡ b.jobs ++ (after_body n, body) ∷ []) → OnOk r (built t jobs b.marks b.body ≡ with_after_body b n body)
-  given_both (Ok x) b n body t jobs p q = ap₂ (λ (u : Nodes) (js : List (ℕ × B)). built u js b.marks b.body) p q
+  pub given_both : {X E : Type 0} (r : Result X E) (b : Built B) (n : ℕ) (body : B) (t : Nodes) (jobs : List (ℕ × B)) → OnOk r (t ≡ with_after b.tree n (after_body n)) → OnOk r (jobs ≡ b.jobs ++ (after_body n, body) ∷ []) → OnOk r (built b.node_limit t jobs b.marks b.body ≡ with_after_body b n body)
+  given_both (Ok x) b n body t jobs p q = ap₂ (λ (u : Nodes) (js : List (ℕ × B)). built b.node_limit u js b.marks b.body) p q
   given_both (Err e) b n body t jobs p q = tt
 
-  pub kept_both : {X E : Type 0} (r : Result X E) (b : Built B) (t : Nodes) (jobs : List (ℕ × B)) → OnErr r (t ≡ b.tree) → OnErr r (jobs ≡ b.jobs) → OnErr r (built t jobs b.marks b.body ≡ b)
+  pub kept_both : {X E : Type 0} (r : Result X E) (b : Built B) (t : Nodes) (jobs : List (ℕ × B)) → OnErr r (t ≡ b.tree) → OnErr r (jobs ≡ b.jobs) → OnErr r (built b.node_limit t jobs b.marks b.body ≡ b)
   kept_both (Ok x) b t jobs p q = tt
-  kept_both (Err e) b t jobs p q = ap₂ (λ (u : Nodes) (js : List (ℕ × B)). built u js b.marks b.body) p q
+  kept_both (Err e) b t jobs p q = ap₂ (λ (u : Nodes) (js : List (ℕ × B)). built b.node_limit u js b.marks b.body) p q

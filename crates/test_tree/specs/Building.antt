@@ -8,7 +8,7 @@ use Rattle.test_tree.specs.Growing.{Built, built}
 module _ {X Y : Type 0} {Z : Y → Type 0} {f : _} {g : _} where
   -- what they hold, but for the properties
   abbrev pub held : Tests X Y Z f g → Built (Body X Y Z f g)
-  held tests = built tests.tree tests.jobs.items tests.marks tests.body
+  held tests = built tests.node_limit tests.tree tests.jobs.items tests.marks tests.body
 
   -- what is said of the configuration
   abbrev pub properties_of : Tests X Y Z f g → Parameters

@@ -18,8 +18,9 @@ use Rattle.test_tree.specs.declared.sort.Sort.TheVariants.{Dynamic}
 use Rattle.test_tree.specs.Marks.{is_unmarked, marked, no_marks}
 use Rattle.test_tree.specs.Sorts.{type_of, value_below}
 
--- The tree, its jobs with their numbers, what is declared of the next node, and the body that it has, if any
+-- How many nodes the tree may have besides the plan, the tree, its jobs with their numbers, what is declared of the next node, and the body that it has, if any
 pub record Built (B : Type 0) : Type 0 where
+  pub node_limit : ℕ
   pub tree : Nodes
   pub jobs : List (ℕ × B)
   pub marks : Marks
@@ -38,19 +39,19 @@ abbrev pub id_refusal : Nodes → ℕ → Sort → List ℕ → Option UidFault
 id_refusal t a sort name = ids.refusal (id_at t a) (type_of sort) (value_below t a sort name)
 
 -- why it is refused: node a takes no more; else there is no such unique id; else the tree refuses it
-abbrev pub IsRefusedOf : Nodes → Marks → Option ℕ → ℕ → Sort → List ℕ → BuildCause → Type 0
-IsRefusedOf t marks number a sort name causes.NoMemory = MayTake t a
-IsRefusedOf t marks number a sort name causes.Closed = MayTake t a → ⊥
-IsRefusedOf t marks number a sort name (causes.Name fault) = MayTake t a × (id_refusal t a sort name ≡ Some fault)
-IsRefusedOf t marks number a sort name (causes.Node fault) =
-    MayTake t a × (id_refusal t a sort name ≡ None) × (trees.refusal t a (node_below t marks number a sort name) ≡ Some fault)
-IsRefusedOf t marks number a sort name cause = ⊥
+abbrev pub IsRefusedOf : ℕ → Nodes → Marks → Option ℕ → ℕ → Sort → List ℕ → BuildCause → Type 0
+IsRefusedOf limit t marks number a sort name causes.NoMemory = MayTake t a
+IsRefusedOf limit t marks number a sort name causes.Closed = MayTake t a → ⊥
+IsRefusedOf limit t marks number a sort name (causes.Name fault) = MayTake t a × (id_refusal t a sort name ≡ Some fault)
+IsRefusedOf limit t marks number a sort name (causes.Node fault) =
+    MayTake t a × (id_refusal t a sort name ≡ None) × (trees.refusal limit t a (node_below t marks number a sort name) ≡ Some fault)
+IsRefusedOf limit t marks number a sort name cause = ⊥
 
 -- where it is not
-pub record IsTakenOf (t : Nodes) (marks : Marks) (number : Option ℕ) (a : ℕ) (sort : Sort) (name : List ℕ) : Type 0 where
+pub record IsTakenOf (limit : ℕ) (t : Nodes) (marks : Marks) (number : Option ℕ) (a : ℕ) (sort : Sort) (name : List ℕ) : Type 0 where
   pub parent : MayTake t a
   pub id : id_refusal t a sort name ≡ None
-  pub node : trees.refusal t a (node_below t marks number a sort name) ≡ None
+  pub node : trees.refusal limit t a (node_below t marks number a sort name) ≡ None
 
 -- why class n gets no after-body: there is no such node; else the tree refuses it
 abbrev pub IsAfterRefused : Nodes → ℕ → BuildCause → Type 0
@@ -61,8 +62,8 @@ IsAfterRefused t n cause = ⊥
 
 module _ {B : Type 0} where
   -- these
-  abbrev pub built : Nodes → List (ℕ × B) → Marks → Option B → Built B
-  built t now declared next = record { tree = t; jobs = now; marks = declared; body = next }
+  abbrev pub built : ℕ → Nodes → List (ℕ × B) → Marks → Option B → Built B
+  built bound t now declared next = record { node_limit = bound; tree = t; jobs = now; marks = declared; body = next }
 
   -- the next node, below node a; its body has its number
   abbrev pub next_node : Built B → ℕ → Sort → List ℕ → Node
@@ -76,6 +77,7 @@ module _ {B : Type 0} where
   -- with the next node, below node a, and its job; nothing is declared of the node behind it
   abbrev pub grown : Built B → ℕ → Sort → List ℕ → Built B
   grown b a sort name = record {
+    node_limit = b.node_limit;
     tree = appended b.tree a (next_node b a sort name);
     jobs = b.jobs ++ job_of (size b.tree) b.body;
     marks = no_marks;
@@ -84,15 +86,15 @@ module _ {B : Type 0} where
 
   -- with what is declared of the next node
   abbrev pub with_marks : Built B → Marks → Built B
-  with_marks b marks = record { tree = b.tree; jobs = b.jobs; marks = marks; body = b.body }
+  with_marks b marks = record { node_limit = b.node_limit; tree = b.tree; jobs = b.jobs; marks = marks; body = b.body }
 
   -- where the next node has this body
   abbrev pub with_body : Built B → B → Built B
-  with_body b body = record { tree = b.tree; jobs = b.jobs; marks = b.marks; body = Some body }
+  with_body b body = record { node_limit = b.node_limit; tree = b.tree; jobs = b.jobs; marks = b.marks; body = Some body }
 
   -- where class n has this after-body
   abbrev pub with_after_body : Built B → ℕ → B → Built B
-  with_after_body b n body = record { tree = with_after b.tree n (after_body n); jobs = b.jobs ++ (after_body n, body) ∷ []; marks = b.marks; body = b.body }
+  with_after_body b n body = record { node_limit = b.node_limit; tree = with_after b.tree n (after_body n); jobs = b.jobs ++ (after_body n, body) ∷ []; marks = b.marks; body = b.body }
 
   -- the jobs with this number changed so: there is one at most
   abbrev pub changed : (B → B) → ℕ → List (ℕ × B) → List (ℕ × B)
@@ -100,23 +102,23 @@ module _ {B : Type 0} where
 
   -- with that job changed so
   abbrev pub with_changed : (B → B) → ℕ → Built B → Built B
-  with_changed change number b = record { tree = b.tree; jobs = changed change number b.jobs; marks = b.marks; body = b.body }
+  with_changed change number b = record { node_limit = b.node_limit; tree = b.tree; jobs = changed change number b.jobs; marks = b.marks; body = b.body }
 
   -- why the next node is refused
   abbrev pub IsNodeRefused : Built B → ℕ → Sort → List ℕ → BuildCause → Type 0
-  IsNodeRefused b a sort name cause = IsRefusedOf b.tree b.marks (option_map (λ _. size b.tree) b.body) a sort name cause
+  IsNodeRefused b a sort name cause = IsRefusedOf b.node_limit b.tree b.marks (option_map (λ _. size b.tree) b.body) a sort name cause
 
   -- where it is not
   abbrev pub IsNodeTaken : Built B → ℕ → Sort → List ℕ → Type 0
-  IsNodeTaken b a sort name = IsTakenOf b.tree b.marks (option_map (λ _. size b.tree) b.body) a sort name
+  IsNodeTaken b a sort name = IsTakenOf b.node_limit b.tree b.marks (option_map (λ _. size b.tree) b.body) a sort name
 
   -- why a node is refused that has no body of its own: a body waits for a class; else as the next node
   abbrev pub IsRefused : Built B → ℕ → Sort → List ℕ → BuildCause → Type 0
-  IsRefused b a sort name cause = ((cause ≡ causes.NoClass) × (is_some b.body ≡ true)) ⊎ ((b.body ≡ None) × IsRefusedOf b.tree b.marks None a sort name cause)
+  IsRefused b a sort name cause = ((cause ≡ causes.NoClass) × (is_some b.body ≡ true)) ⊎ ((b.body ≡ None) × IsRefusedOf b.node_limit b.tree b.marks None a sort name cause)
 
   -- why a node is refused that has a body of its own
   abbrev pub IsBodyRefused : Built B → ℕ → Sort → List ℕ → BuildCause → Type 0
-  IsBodyRefused b a sort name cause = ((cause ≡ causes.NoClass) × (is_some b.body ≡ true)) ⊎ ((b.body ≡ None) × IsRefusedOf b.tree b.marks (Some (size b.tree)) a sort name cause)
+  IsBodyRefused b a sort name cause = ((cause ≡ causes.NoClass) × (is_some b.body ≡ true)) ⊎ ((b.body ≡ None) × IsRefusedOf b.node_limit b.tree b.marks (Some (size b.tree)) a sort name cause)
 
   -- why a dynamic test is refused: something is declared of it; else as any node with a body
   abbrev pub IsDynamicRefused : Built B → ℕ → List ℕ → BuildCause → Type 0

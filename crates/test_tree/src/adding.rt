@@ -31,6 +31,7 @@ impl Tests {
     {
         grow(
             self.alloc,
+            self.node_limit,
             &mut self.tree,
             &mut self.jobs,
             &mut self.marks,

@@ -36,7 +36,7 @@ pub enum BuildCause {
 fn sentence_of(fault: TreeFault) -> &'static str {
     match fault {
         TreeFault::NoMemory => "there was not enough memory",
-        TreeFault::TooMany => "more than 4095 nodes besides the plan",
+        TreeFault::TooMany => "more nodes than the tree may have",
         TreeFault::TooDeep => "a node that stands too deep",
         TreeFault::DoubleId => "a unique id that is there already",
         TreeFault::ParentIsTest => "a node below a test",

@@ -7,7 +7,7 @@ ghost use Rattle.test_tree.specs.declared.cause.BuildCause.TheVariants.{NoMemory
 use crate::cause::BuildCause;
 use crate::sort::Sort;
 use crate::tests::Tests;
-use descriptor::NodeId;
+use descriptor::{NodeId, NodeLimit, TreeFault};
 use std::alloc::{AllocError, AllocFailed};
 use std::fmt;
 use std::fmt::{Display, InlineText};
@@ -20,6 +20,8 @@ const LONGEST_PLACE: usize = 512;
 pub struct BuildFault {
     /// Why a test or a class was refused.
     pub cause: BuildCause,
+    // how many nodes there may be
+    limit: NodeLimit,
     place: InlineText<{ LONGEST_PLACE }>,
 }
 
@@ -29,6 +31,7 @@ impl BuildFault {
     {
         BuildFault {
             cause,
+            limit: NodeLimit::usual(),
             place: InlineText::of(place),
         }
     }
@@ -45,12 +48,15 @@ impl Display for BuildFault {
     fn fmt<W: fmt::Write>(&self, f: &mut fmt::Formatter<W>) -> fmt::Result {
         let place = self.place.as_str();
         let colon = if place.is_empty() { "" } else { ": " };
-        write!(
-            f,
-            "error {}: {}{colon}{place}",
-            self.cause.number(),
-            self.cause
-        )
+        let number = self.cause.number();
+        if let BuildCause::Node(TreeFault::TooMany) = self.cause {
+            let limit = self.limit.nodes();
+            return write!(
+                f,
+                "error {number}: more than {limit} nodes besides the plan{colon}{place}"
+            );
+        }
+        write!(f, "error {number}: {}{colon}{place}", self.cause)
     }
 }
 
@@ -106,6 +112,11 @@ impl Tests {
         let above = self.text_of(parent);
         let slash = if above.is_empty() { "" } else { "/" };
         let segment = sort.segment_type();
-        BuildFault::at(cause, format_args!("{above}{slash}[{segment}:{name}]"))
+        let fault = BuildFault::at(cause, format_args!("{above}{slash}[{segment}:{name}]"));
+        BuildFault {
+            cause: fault.cause,
+            limit: self.node_limit,
+            place: fault.place,
+        }
     }
 }

@@ -16,7 +16,7 @@ ghost use Rattle.test_tree.specs.Marks.{marked};
 use crate::cause::BuildCause;
 use crate::marks::Marks;
 use crate::sort::Sort;
-use descriptor::{BodyId, Node, NodeId, Tree, TreeBuilder, TreeFault};
+use descriptor::{BodyId, Node, NodeId, NodeLimit, Tree, TreeBuilder, TreeFault};
 use run_table::Jobs;
 use std::alloc::Global;
 use test_bodies::Body;
@@ -102,9 +102,10 @@ fn next_node(
     Ok(marks.node(alloc, sort, id, name, body)?)
 }
 
-/// Adds this node below this one, and its job, for which there is room.
+/// Adds this node below this one, where there may be so many, and its job, for which there is room.
 fn hang(
     alloc: Global,
+    limit: NodeLimit,
     tree: &mut TreeBuilder,
     jobs: &mut Jobs<Body>,
     parent: NodeId,
@@ -114,18 +115,18 @@ fn hang(
     requires taken { MayTake tree.old parent }
     requires room { vec_len jobs.old < vec_capacity jobs.old }
     ensures number { IfOk result (λ number. number ≡ size tree.old) }
-    ensures accepted { OnOk result (trees.refusal tree.old parent node ≡ None) }
+    ensures accepted { OnOk result (trees.refusal limit tree.old parent node ≡ None) }
     ensures tree { OnOk result (tree.new ≡ appended tree.old parent node) }
     ensures jobs { OnOk result (jobs.new.items ≡ jobs.old.items ++ job_of (size tree.old) body.old) }
     ensures body { OnOk result (body.new ≡ None) }
     ensures refused { IfErr result (λ cause. cause ≢ BuildCause.NoMemory → (fault : TreeFaultValue)
-        × (cause ≡ BuildCause.Node fault) × (trees.refusal tree.old parent node ≡ Some fault)) }
-    ensures no_memory { IfErr result (λ cause. cause ≡ BuildCause.NoMemory → trees.refusal tree.old parent node ≡ None) }
+        × (cause ≡ BuildCause.Node fault) × (trees.refusal limit tree.old parent node ≡ Some fault)) }
+    ensures no_memory { IfErr result (λ cause. cause ≡ BuildCause.NoMemory → trees.refusal limit tree.old parent node ≡ None) }
     ensures tree_kept { OnErr result (tree.new ≡ tree.old) }
     ensures jobs_kept { OnErr result (jobs.new.items ≡ jobs.old.items) }
     ensures body_kept { OnErr result (body.new ≡ body.old) }
 {
-    let number = match tree.add(alloc, parent, node) {
+    let number = match tree.add(alloc, limit, parent, node) {
         Ok(number) => number,
         Err(TreeFault::NoMemory) => return Err(BuildCause::NoMemory),
         Err(fault) => return Err(BuildCause::Node(fault)),
@@ -146,9 +147,10 @@ fn next_body(tree: &Tree, body: &Option<Body>) -> Option<BodyId>
     }
 }
 
-/// Adds the next node below this one, with its job.
+/// Adds the next node below this one, where there may be so many, with its job.
 pub(crate) fn grow(
     alloc: Global,
+    limit: NodeLimit,
     tree: &mut TreeBuilder,
     jobs: &mut Jobs<Body>,
     marks: &mut Marks,
@@ -159,13 +161,13 @@ pub(crate) fn grow(
 ) -> Result<NodeId, BuildCause>
     ensures number { IfOk result (λ number. (number ≡ size tree.old) × (0 < number)) }
     ensures tree { OnOk result (IsTree tree.old) }
-    ensures taken { OnOk result (IsNodeTaken (built tree.old jobs.old.items marks.old body.old) parent sort name.now) }
-    ensures grown { OnOk result (built tree.new jobs.new.items marks.new body.new
-        ≡ grown (built tree.old jobs.old.items marks.old body.old) parent sort name.now) }
+    ensures taken { OnOk result (IsNodeTaken (built limit tree.old jobs.old.items marks.old body.old) parent sort name.now) }
+    ensures grown { OnOk result (built limit tree.new jobs.new.items marks.new body.new
+        ≡ grown (built limit tree.old jobs.old.items marks.old body.old) parent sort name.now) }
     ensures refused { IfErr result (λ cause.
-        IsNodeRefused (built tree.old jobs.old.items marks.old body.old) parent sort name.now cause) }
-    ensures err { OnErr result (built tree.new jobs.new.items marks.new body.new
-        ≡ built tree.old jobs.old.items marks.old body.old) }
+        IsNodeRefused (built limit tree.old jobs.old.items marks.old body.old) parent sort name.now cause) }
+    ensures err { OnErr result (built limit tree.new jobs.new.items marks.new body.new
+        ≡ built limit tree.old jobs.old.items marks.old body.old) }
 {
     if !tree.may_take(parent) {
         return Err(BuildCause::Closed);
@@ -173,7 +175,7 @@ pub(crate) fn grow(
     jobs.reserve(1)?;
     let number = next_body(tree.tree(), body);
     let node = next_node(alloc, tree.tree(), marks, parent, sort, name, number)?;
-    let added = hang(alloc, tree, jobs, parent, node, body)?;
+    let added = hang(alloc, limit, tree, jobs, parent, node, body)?;
     marks.clear(alloc);
     Ok(added)
 }

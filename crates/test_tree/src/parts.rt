@@ -26,13 +26,10 @@ use crate::handles::ClassId;
 use crate::marks::Marks;
 use crate::tests::Tests;
 use config_params::{Params, Source};
-use descriptor::{BodyId, NodeId, Tree, TreeBuilder};
+use descriptor::{BodyId, NodeId, NodeLimit, Tree, TreeBuilder};
 use run_table::Jobs;
 use std::alloc::{AllocError, Global};
 use test_bodies::{Body, TestFn};
-
-/// The number of a class's after-body, less the class's own: above all numbers of nodes.
-const FIRST_AFTER: u16 = 8_192;
 
 /// Gives a class this after-body, and adds its job.
 fn put_after(
@@ -52,7 +49,7 @@ fn put_after(
         return Err(BuildCause::Closed);
     }
     jobs.reserve(1)?;
-    let number = BodyId::new(FIRST_AFTER + class.number());
+    let number = BodyId::after(class);
     match tree.set_after(class, number) {
         Ok(()) => {
             jobs.push_reserved((number, body));
@@ -78,14 +75,25 @@ fn pending(marks: &Marks, body: &Option<Body>) -> Option<BuildCause>
 }
 
 impl Tests {
-    /// No tests yet. They stand in a box: where a call is refused it falls by one call, and not by one for each part.
+    /// No tests yet, of which there may be 4,095 nodes.
     pub fn new(alloc: Global) -> Result<Box<Tests>, AllocError>
-        ensures empty { IfOk result (λ tests. held tests.value ≡ built plan_alone [] no_marks None) }
+        ensures empty { IfOk result (λ tests. held tests.value ≡ built 4095 plan_alone [] no_marks None) }
+        ensures properties { IfOk result (λ tests. properties_of tests.value ≡ nothing_said) }
+        ensures memory { IfOk result (λ tests. memory_of tests.value ≡ alloc) }
+    {
+        Tests::with_limit(alloc, NodeLimit::usual())
+    }
+
+    /// No tests yet, of which there may be so many nodes. They stand in a box: where a call is refused it falls by one
+    /// call, and not by one for each part.
+    pub fn with_limit(alloc: Global, limit: NodeLimit) -> Result<Box<Tests>, AllocError>
+        ensures empty { IfOk result (λ tests. held tests.value ≡ built limit plan_alone [] no_marks None) }
         ensures properties { IfOk result (λ tests. properties_of tests.value ≡ nothing_said) }
         ensures memory { IfOk result (λ tests. memory_of tests.value ≡ alloc) }
     {
         let tests = Tests {
             alloc,
+            node_limit: limit,
             tree: TreeBuilder::new(alloc)?,
             jobs: Vec::new(alloc),
             properties: Params::new(alloc),
@@ -156,6 +164,7 @@ impl Tests {
     {
         let Tests {
             alloc: _,
+            node_limit: _,
             tree,
             jobs,
             properties,

@@ -7,7 +7,7 @@ ghost use Rattle.test_tree.specs.Jobs.{HasJobs, are_fresh, is_fresh_or_none};
 
 use crate::marks::Marks;
 use config_params::Params;
-use descriptor::{BodyId, TreeBuilder};
+use descriptor::{BodyId, NodeLimit, TreeBuilder};
 use run_table::Jobs;
 use std::alloc::Global;
 use test_bodies::Body;
@@ -17,6 +17,8 @@ use test_bodies::Body;
 #[derive(Drop)]
 pub struct Tests {
     pub(crate) alloc: Global,
+    // how many nodes the tree may have
+    pub(crate) node_limit: NodeLimit,
     pub(crate) tree: TreeBuilder,
     pub(crate) jobs: Jobs<Body>,
     pub(crate) properties: Params,

@@ -14,7 +14,7 @@ pub invariant_of-self : goal.invariant_of-self
 invariant_of-self g c =
     let b = held c.args.self.now in
     let next = with_after_body b c.args.class c.args.body in
-    let now = built c.put_after.new.tree c.put_after.new.jobs.items b.marks b.body in
+    let now = built b.node_limit c.put_after.new.tree c.put_after.new.jobs.items b.marks b.body in
     let ok = given_both c.put_after.result b c.args.class c.args.body c.put_after.new.tree c.put_after.new.jobs.items c.put_after.ensures.tree c.put_after.ensures.jobs in
     let err = kept_both c.put_after.result b c.put_after.new.tree c.put_after.new.jobs.items c.put_after.ensures.tree_kept c.put_after.ensures.jobs_kept in
     record {

@@ -14,7 +14,7 @@ pub invariant_of-self : goal.invariant_of-self
 invariant_of-self g c =
     let b = held c.args.self.now in
     let next = grown b c.args.parent c.args.sort c.args.name.now in
-    let now = built c.grow.new.tree c.grow.new.jobs.items c.grow.new.marks c.grow.new.body in
+    let now = built b.node_limit c.grow.new.tree c.grow.new.jobs.items c.grow.new.marks c.grow.new.body in
     record {
       has = either_way c.grow.result b next now c.grow.ensures.grown c.grow.ensures.err (λ x. HasJobs x.tree x.jobs) c.args.self.now.has (always c.grow.result _ (has_grown b c.args.parent c.args.sort c.args.name.now c.args.self.now.has));
       fresh =

@@ -18,4 +18,4 @@ invariant_of-self g c = record {
 pub returns-clause-counted : goal.returns-clause-counted
 returns-clause-counted g c =
     let same : c.new.result ≡ c.args.factory = search rules in
-    ap (λ jobs. built c.args.self.now.tree jobs c.args.self.now.marks c.args.self.now.body) (carried same (λ n. c.count_test.new.jobs.items ≡ changed with_test n c.args.self.now.jobs.items) c.count_test.ensures)
+    ap (λ jobs. built c.args.self.now.node_limit c.args.self.now.tree jobs c.args.self.now.marks c.args.self.now.body) (carried same (λ n. c.count_test.new.jobs.items ≡ changed with_test n c.args.self.now.jobs.items) c.count_test.ensures)
