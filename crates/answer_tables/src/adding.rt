@@ -4,7 +4,9 @@
 //! else in READ_WRITE.
 
 use crate::tags::add_tag;
-use descriptor::{BodyId, Kind, Lock, LockMode, Mode, Node, NodeId, Role, TreeBuilder, TreeFault};
+use descriptor::{
+    BodyId, Kind, Lock, LockMode, Mode, Node, NodeId, NodeLimit, Role, TreeBuilder, TreeFault,
+};
 use run_answers::{cut, key_and_value, node_of, push_fault, say, show, text_of};
 use std::alloc::Global;
 use unique_id::{Text, UniqueId};
@@ -121,7 +123,7 @@ fn push_identified(
 ) {
     if builder.may_take(parent) {
         let node = made(alloc, kind, id, words);
-        push_number(answer, builder.add(alloc, parent, node))
+        push_number(answer, builder.add(alloc, NodeLimit::usual(), parent, node))
     } else {
         say(answer, " => closed");
         drop(id)

@@ -115,7 +115,7 @@ pub(crate) fn push_suite_answer(
     asked: &str,
     words: &str,
 ) {
-    match Suite::parse(alloc, text) {
+    match Suite::parse(alloc, None, text) {
         Ok(suite) => {
             push_suite_asked(alloc, answer, &suite, asked, words);
             drop(suite)

@@ -54,7 +54,7 @@ pub(crate) const STEPS: &str =
 
 /// The suite of a text.
 pub(crate) fn suite_of(alloc: Global, text: &str) -> Result<Suite, AllocError> {
-    Suite::parse(alloc, text).map_err(|_| AllocError)
+    Suite::parse(alloc, None, text).map_err(|_| AllocError)
 }
 
 /// The tree of a suite, and what its property lines say.

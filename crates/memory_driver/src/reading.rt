@@ -22,7 +22,7 @@ impl Call for Parses {
     type Answer = Result<Suite, SuiteFault>;
 
     fn make(self, alloc: Global, _input: &()) -> Result<Suite, SuiteFault> {
-        Suite::parse(alloc, SHOP)
+        Suite::parse(alloc, None, SHOP)
     }
 
     fn push(said: &mut Said, suite: &Result<Suite, SuiteFault>) {

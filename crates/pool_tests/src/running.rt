@@ -56,7 +56,7 @@ pub(crate) fn staged(alloc: Global, text: &str) -> Option<(Plan, Vec<Script>)> {
         tree,
         mut scripts,
         properties,
-    } = Suite::parse(alloc, text).ok()?;
+    } = Suite::parse(alloc, None, text).ok()?;
     ask_for_more(&mut scripts);
     let plan = planned(alloc, tree, properties)?;
     Some((plan, scripts))

@@ -35,7 +35,7 @@ impl Run {
             tree,
             scripts,
             properties,
-        } = Suite::parse(alloc, text).ok()?;
+        } = Suite::parse(alloc, None, text).ok()?;
         drop(properties);
         let answers = answers_of(alloc, scripts);
         let plan = plan_of(alloc, tree)?;

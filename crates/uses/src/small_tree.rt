@@ -3,7 +3,7 @@
 ghost use Rattle.std.specs.Prelude.{◌≡◌, [], ◌∷◌, IfOk};
 ghost use Rattle.descriptor.specs.Nodes.{IsTree, appended, children_of, plan_alone};
 
-use descriptor::{Node, NodeId, Tree, TreeBuilder, TreeFault};
+use descriptor::{Node, NodeId, NodeLimit, Tree, TreeBuilder, TreeFault};
 use std::alloc::Global;
 
 /// The tree of the plan, which is node 0, and an engine, which is node 1.
@@ -13,6 +13,6 @@ pub fn one_engine(alloc: Global, engine: Node) -> Result<Tree, TreeFault>
     ensures tree { IfOk result (λ tree. IsTree tree) }
 {
     let mut builder = TreeBuilder::new(alloc)?;
-    builder.add(alloc, NodeId::ROOT, engine)?;
+    builder.add(alloc, NodeLimit::usual(), NodeId::ROOT, engine)?;
     Ok(builder.finish())
 }

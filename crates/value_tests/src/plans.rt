@@ -1,6 +1,6 @@
 //! Plans and events for the tests.
 
-use descriptor::{BodyId, Kind, Mode, Node, NodeId, Role, Tree, TreeBuilder};
+use descriptor::{BodyId, Kind, Mode, Node, NodeId, NodeLimit, Role, Tree, TreeBuilder};
 use plan_events::{Event, EventKind, Status};
 use resource_locks::Plan;
 use std::alloc::Global;
@@ -19,7 +19,7 @@ pub(crate) fn plan_of(alloc: Global, text: &str) -> Option<Plan> {
         tree,
         scripts: _,
         properties: _,
-    } = Suite::parse(alloc, text).ok()?;
+    } = Suite::parse(alloc, None, text).ok()?;
     side_by_side(alloc, tree)
 }
 
@@ -34,7 +34,7 @@ fn put(alloc: Global, builder: &mut TreeBuilder, parent: NodeId, node: Node) -> 
     if !builder.may_take(parent) {
         return None;
     }
-    builder.add(alloc, parent, node).ok()?;
+    builder.add(alloc, NodeLimit::usual(), parent, node).ok()?;
     Some(())
 }
 
