@@ -53,9 +53,9 @@ struct NodeCells {
     after: JobCell,
 }
 
-/// Takes note of times by a clock, which may go back or fail: what was not read is not known. It has no cells, and reads
-/// no clock, until somebody asks for times or sets a limit. A suite and a program's own tests give bodies the numbers of
-/// their nodes, and after-bodies those behind the greatest number of a node.
+/// Takes note of times by a clock, which may go back or fail: what was not read is not known. It has no cells, and
+/// reads no clock, until somebody asks for times or sets a limit. A suite and a program's own tests give bodies the
+/// numbers of their nodes, and after-bodies those behind the greatest number of a node.
 pub struct JobTimes<'c, C: Clock> {
     alloc: Global,
     // so many nodes have cells
@@ -90,7 +90,8 @@ fn cells_for(alloc: Global, nodes: usize) -> Result<Vec<NodeCells>, AllocError> 
 }
 
 impl<'c, C: Clock> JobTimes<'c, C> {
-    /// Nothing is known of any job, and no note is taken; later it may be of the jobs of so many nodes, the plan included.
+    /// Nothing is known of any job, and no note is taken; later it may be of the jobs of so many nodes, the plan
+    /// included.
     pub fn off(alloc: Global, clock: &'c C, nodes: usize) -> JobTimes<'c, C> {
         JobTimes {
             alloc,
@@ -100,8 +101,8 @@ impl<'c, C: Clock> JobTimes<'c, C> {
         }
     }
 
-    /// From now on note is taken of each job, if there is memory for it. Of those of a node behind the ones that it was made
-    /// for nothing is ever known.
+    /// From now on note is taken of each job, if there is memory for it. Of the jobs of nodes behind those that it was
+    /// made for nothing is ever known.
     pub fn turn_on(&self) {
         if self.cells.get().is_some() {
             return;

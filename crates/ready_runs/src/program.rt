@@ -27,8 +27,8 @@ pub struct PlannedProgram {
     pub head: String,
 }
 
-/// Refused is that steps are to be replayed, that they are to be those of the fixed schedule, or that a suite may have so
-/// many nodes (105).
+/// Refused is that steps are to be replayed, that they are to be those of the fixed schedule, or that a suite may have
+/// so many nodes (105).
 fn refuse_suite_options(options: &Options) -> Result<(), LaunchFault>
     ensures accepted { IfOk result (λ _. suite_option_refusal (asked_by options.now).replay options.now.drive
         options.now.most_nodes ≡ None) }

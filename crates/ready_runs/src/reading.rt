@@ -13,8 +13,8 @@ use std::io::Read;
 use suite_text::Suite;
 use suite_words::byte_limit;
 
-/// How many bytes of a suite are read at most where so many nodes were asked for: one more than a suite may have tells that there
-/// are too many.
+/// How many bytes of a suite are read at most where so many nodes were asked for: one more than a suite may have tells
+/// that there are too many.
 pub fn most_read(most: Option<NodeLimit>) -> usize
     ensures { result ≡ most_read most }
 {

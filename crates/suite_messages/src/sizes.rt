@@ -13,11 +13,12 @@ fn in_thousands(alloc: Global, number: usize) -> Result<String, AllocError> {
 
 /// What is said of the node that is one too many where so many nodes were asked for.
 pub(crate) fn too_many_nodes(alloc: Global, most: Option<NodeLimit>) -> Result<String, AllocError> {
+    let hint = match &most {
+        None => "; --most-nodes N lets it have N, up to 16,383",
+        Some(_) => "",
+    };
     let allowed = in_thousands(alloc, node_limit(most).nodes())?;
-    match most {
-        None => format!(in alloc; "with this node the suite has more than {allowed}; --most-nodes N lets it have N, up to 16,383"),
-        Some(_) => format!(in alloc; "with this node the suite has more than {allowed}"),
-    }
+    format!(in alloc; "with this node the suite has more than {allowed}{hint}")
 }
 
 /// What is said of too many bytes where so many nodes were asked for.
