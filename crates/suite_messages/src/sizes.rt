@@ -24,7 +24,8 @@ pub(crate) fn too_many_nodes(alloc: Global, most: Option<NodeLimit>) -> Result<S
 /// What is said of too many bytes where so many nodes were asked for.
 pub(crate) fn too_many_bytes(most: Option<NodeLimit>) -> &'static str {
     match most {
-        None => "A suite has at most 1,048,576 bytes; with --most-nodes N it may have 16,777,216.\n",
+        None =>
+            "A suite has at most 1,048,576 bytes; with --most-nodes N it may have 16,777,216.\n",
         Some(_) => "A suite has at most 16,777,216 bytes.\n",
     }
 }
