@@ -194,6 +194,10 @@ class Asker:
         """After how many failures a run stops."""
         return str(self.random.choice([1, 2, 3, 7, 4095]))
 
+    def most_nodes(self):
+        """How many nodes a suite may have."""
+        return str(self.random.choice([4095, 4096, 16383]))
+
     def all(self):
         """A list of words."""
         made = []
@@ -205,6 +209,7 @@ class Asker:
         made += self.single("--shard", 0.3, self.shard, BAD_SHARDS)
         made += self.single("--seed", 0.3, self.seed, BAD_NUMBERS)
         made += self.single("--max-fail", 0.2, self.most, [*BAD_NUMBERS, "0", "4096"])
+        made += self.single("--most-nodes", 0.1, self.most_nodes, [*BAD_NUMBERS, "4094", "16384"])
         made += self.single("--fail-if-no-tests", 0.3, str, None)
         self.random.shuffle(made)
         return made

@@ -15,10 +15,11 @@ NAMING |= {"--exclude-package": "package", "--rerun": "id"}
 SELECTING = ("--select-unique-id", "--select-class", "--select-method", "--select-package")
 HAS_TO_COVER = (*SELECTING, "--include-name")
 LEAVING_OUT = tuple(option for option in NAMING if option.startswith("--exclude-"))
-ONCE = ("--shard", "--seed", "--max-fail", "--fail-if-no-tests")
+ONCE = ("--shard", "--seed", "--max-fail", "--most-nodes", "--fail-if-no-tests")
 PART = re.compile(rb"\[([^\[\]:]+):([^\[\]:]+)\]")
 SHARD = re.compile(r"(hash:)?([0-9]+)/([0-9]+)")
 MOST_BYTES, MOST_SEGMENTS, MOST_SHARDS, MOST_FAILURES = 1024, 64, 4095, 4095
+USUAL_NODES, MOST_NODES = 4095, 16383
 
 
 @dataclass
@@ -215,7 +216,7 @@ def is_refused_word(word):
     """Whether a word of the command line is none that its option takes."""
     if word.is_apart and word.value.startswith("-") and word.value != "-":
         return True
-    bounds = {"--seed": (0, 2**64 - 1), "--max-fail": (1, MOST_FAILURES)}
+    bounds = {"--seed": (0, 2**64 - 1), "--max-fail": (1, MOST_FAILURES), "--most-nodes": (USUAL_NODES, MOST_NODES)}
     if word.option in bounds:
         return not is_number(word.value, *bounds[word.option])
     return word.option == "--shard" and shard_of(word.value) is None
