@@ -15,12 +15,12 @@ use crate::channel::Channel;
 use crate::heard::{Answer, Heard};
 use crate::silence::Silence;
 use descriptor::NodeId;
-use job_places::Place;
 use plan_events::{Job, Outcome, Pull};
 use reports::push_note;
 use std::alloc::{AllocError, Global};
 use std::io::{Read, Write};
 use unique_id::Text;
+use workers::Place;
 
 /// A test's body, or an after-body, that a host runs. How it ends nobody knows beforehand.
 #[derive(Drop)]

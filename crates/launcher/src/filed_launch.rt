@@ -21,7 +21,6 @@ use crate::program::Program;
 use crate::program_launch::launch_program;
 use crate::run_reports::{report_launched, slowest_launched};
 use crate::timed_place::TimedPlace;
-use job_places::Place;
 use job_times::{RunTimes, Stopwatch};
 use launch_options::{LaunchFault, Options, ReportAsked};
 use listeners::Observer;
@@ -31,6 +30,7 @@ use std::alloc::Global;
 use std::io::Write;
 use std::sync::{Mutex, Wait};
 use std::thread::Threads;
+use workers::Place;
 
 /// What a launch comes to that is refused before anything is looked at.
 fn unlaunched<B: Job>(fault: LaunchFault, program: Program<B>) -> Launched<B>

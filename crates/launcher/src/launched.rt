@@ -18,7 +18,6 @@ use crate::report::{launch, printed};
 use crate::run::{broken_off, form_for, outlet_for};
 use crate::timed_place::TimedPlace;
 use config_params::Settings;
-use job_places::Place;
 use job_times::{RunTimes, Stopwatch};
 use launch_options::{LaunchFault, Options};
 use listeners::Observer;
@@ -33,6 +32,7 @@ use std::io::Write;
 use std::sync::{Mutex, Wait};
 use std::thread::Threads;
 use worker_pool::Report;
+use workers::Place;
 
 /// What a launch comes to: its answer, and the run, where one is over.
 #[derive(Drop)]

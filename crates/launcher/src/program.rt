@@ -27,7 +27,6 @@ use crate::run::{broken_off, form_for, outlet_for};
 use crate::timed_place::TimedPlace;
 use config_params::{Params, Settings};
 use descriptor::{BodyId, Tree};
-use job_places::Place;
 use job_times::{RunTimes, Stopwatch};
 use launch_options::{LaunchFault, Options};
 use listeners::Observer;
@@ -41,6 +40,7 @@ use std::alloc::Global;
 use std::io::Write;
 use std::sync::{Mutex, Wait};
 use std::thread::Threads;
+use workers::Place;
 
 /// What a program has to be run: a tree, what it says of the configuration below the options, a job
 /// for each body and each after-body of the tree, and from how many milliseconds on bodies of these

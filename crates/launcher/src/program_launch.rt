@@ -21,7 +21,6 @@ use crate::launched::{Launched, launch_to};
 use crate::program::Program;
 use crate::timed_place::TimedPlace;
 use config_params::Settings;
-use job_places::Place;
 use job_times::{RunTimes, Stopwatch};
 use launch_options::{Details, LaunchFault, Options};
 use listeners::Observer;
@@ -35,6 +34,7 @@ use std::alloc::Global;
 use std::io::Write;
 use std::sync::{Mutex, Wait};
 use std::thread::Threads;
+use workers::Place;
 
 /// Prints the list of what would be run.
 fn print_list<W: Write>(

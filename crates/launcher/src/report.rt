@@ -23,7 +23,6 @@ use crate::driven::drive_report;
 use crate::timed_place::{TimedPlace, bare_places};
 use crate::timed_run::run_timed;
 use config_params::Settings;
-use job_places::Place;
 use job_times::{Stopwatch, Timings};
 use launch_options::{Details, LaunchFault, Options};
 use listeners::Observer;
@@ -37,6 +36,7 @@ use std::alloc::{AllocError, Global};
 use std::sync::{Mutex, Wait};
 use std::thread::Threads;
 use worker_pool::{Report, RunCause};
+use workers::Place;
 
 /// The refusal of a run that was not begun.
 fn unrun(cause: RunCause) -> LaunchFault

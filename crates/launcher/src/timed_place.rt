@@ -1,10 +1,10 @@
 //! A place at which jobs are run that a stopwatch takes note of.
 
 use descriptor::NodeId;
-use job_places::Place;
 use job_times::{Stopwatch, TimedJob};
 use plan_events::{Job, Outcome};
 use std::sync::Mutex;
+use workers::Place;
 
 /// A place of a worker: jobs that are timed are run there as the jobs are without their stopwatch.
 #[derive(Drop)]

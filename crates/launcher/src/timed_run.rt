@@ -16,7 +16,6 @@ ghost use Rattle.worker_pool.specs.Reports.{EndsAsReplied, IsLeft, IsToldAsGiven
 ghost use Rattle.listeners.specs.Observing.{HasSeenMore};
 
 use crate::timed_place::TimedPlace;
-use job_places::Place;
 use job_times::{Stopwatch, TimedJob, timed_jobs, untimed_jobs};
 use listeners::Observer;
 use plan_events::{Job, MOST_WORKERS};
@@ -26,6 +25,7 @@ use std::alloc::Global;
 use std::sync::{Mutex, Wait};
 use std::thread::Threads;
 use worker_pool::{Report, RunCause, RunFault, run_placed};
+use workers::Place;
 
 /// The most words that the ring of places may have.
 const MOST_RING: u32 = 16_384;

@@ -19,7 +19,6 @@ ghost use Rattle.thread_pool.specs.Telling.{AreTextsRead, IsNoted, IsOver, Keeps
 use crate::gate::{SharedTable, TableBrand};
 use crate::pool::Pool;
 use crate::running::DispatcherState;
-use job_places::Place;
 use listeners::{Observer, ends_plan};
 use node_sources::{IdleRounds, Parkers};
 use plan_events::{Event, EventKind, Job, Texts};
@@ -27,6 +26,7 @@ use run_table::{DispatcherSeat, RunTable};
 use scheduling::skip_note;
 use std::sync::Wait;
 use std::thread::Threads;
+use workers::Place;
 
 /// Keeps the text of the event that was read last, if its node has one by it. It takes no memory.
 fn keep_text<B: Job>(

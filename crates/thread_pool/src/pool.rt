@@ -8,7 +8,6 @@ ghost use Rattle.workers.specs.Premises.{MayAnswer};
 
 use crate::gate::{FinishedSeat, FreeSeat, Gate, SharedTable, TableBrand};
 use crate::serving::serve;
-use job_places::Place;
 use node_sources::FEW_WORKERS;
 use plan_events::Job;
 use run_table::DispatcherSeat;
@@ -16,6 +15,7 @@ use std::alloc::{AllocError, Global};
 use std::sync::{Mutex, Wait};
 use std::thread;
 use std::thread::{JoinHandle, Scope, Threads};
+use workers::Place;
 
 /// How many threads of so many are started before there is anything to do: one for each processor,
 /// and a few at least; all, where the system does not say how many processors there are.

@@ -9,7 +9,6 @@ ghost use Rattle.thread_pool.specs.Runs.{HasRun, IsReady};
 use crate::dispatching::dispatch;
 use crate::gate::{FinishedSeat, Gate, SharedTable, TableBrand};
 use crate::pool::Pool;
-use job_places::Place;
 use listeners::Observer;
 use plan_events::{Event, Job, Texts};
 use run_table::DispatcherSeat;
@@ -17,6 +16,7 @@ use std::alloc::Global;
 use std::sync::{Mutex, Wait};
 use std::thread;
 use std::thread::{JoinHandle, Threads};
+use workers::Place;
 
 /// The dispatcher's seat, the texts of the nodes, and what it has read, with room for all events.
 #[derive(Drop)]

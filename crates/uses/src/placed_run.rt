@@ -4,12 +4,11 @@
 ghost use Rattle.std.specs.Prelude.{IfSome};
 ghost use Rattle.std.proofs.Common.{rules};
 ghost use Rattle.event_history.specs.History.{IsComplete};
-ghost use Rattle.job_places.specs.Leading.{AreLedFrom};
+ghost use Rattle.workers.specs.Leading.{AreLedFrom};
 ghost use Rattle.uses.specs.Counting.{counts_on};
 
 use crate::threaded_run::{Passing, two_jobs};
 use descriptor::{BodyId, NodeId};
-use job_places::{Place, PlacesBrand, lend_places, take_back};
 use plan_events::{Event, Job, Outcome};
 use resource_locks::Plan;
 use std::alloc::Global;
@@ -17,6 +16,7 @@ use std::marker::Brand;
 use std::sync::Wait;
 use std::thread::Threads;
 use worker_pool::run_placed;
+use workers::{Place, PlacesBrand, lend_places, take_back};
 
 /// A place that counts the jobs that it was asked for.
 #[derive(Drop)]

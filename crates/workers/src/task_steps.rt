@@ -6,16 +6,16 @@ ghost use Rattle.scheduling.specs.declared.task.Opening.TheVariants.{Backing};
 ghost use Rattle.scheduling.specs.declared.task.Closing.TheVariants.{Settling};
 ghost use Rattle.scheduling.specs.declared.task.Task.TheVariants.{Opens, Closes};
 ghost use Rattle.table_rule.specs.Plays.{back_due};
-ghost use Rattle.job_places.specs.Leading.{GoesOnFrom};
 ghost use Rattle.run_table.specs.Handles.{about_in, event_due_at, offer_due_at};
 ghost use Rattle.run_table.specs.Seats.{IsSeatOf};
 ghost use Rattle.workers.specs.Going.{GoesOn, HasRoom};
+ghost use Rattle.workers.specs.Leading.{GoesOnFrom};
 ghost use Rattle.workers.specs.Premises.{MayAnswer};
 ghost use Rattle.workers.specs.Inside.Steady.{Phase, ReadySteady, Steady};
 
 use crate::answering::answer;
+use crate::place::Place;
 use descriptor::NodeId;
-use job_places::Place;
 use node_sources::{IdleRounds, Sources};
 use plan_events::Job;
 use run_table::{RunTable, WorkerSeat};

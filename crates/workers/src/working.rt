@@ -2,17 +2,17 @@
 
 ghost use Rattle.std.specs.Prelude.{◌≡◌, true, None};
 ghost use Rattle.scheduling.specs.declared.task.Task.TheVariants.{Free};
-ghost use Rattle.job_places.specs.Leading.{GoesOnFrom};
 ghost use Rattle.run_table.specs.Handles.{about_in, worker_at};
 ghost use Rattle.run_table.specs.Seats.{IsSeatOf, SameSeat};
 ghost use Rattle.workers.specs.Going.{Continues, GoesOn};
+ghost use Rattle.workers.specs.Leading.{GoesOnFrom};
 ghost use Rattle.workers.specs.Premises.{MayAnswer};
 ghost use Rattle.workers.specs.Inside.Steady.{Phase, Steady, AtNodes};
 
+use crate::place::Place;
 use crate::pulling::pull_tests;
 use crate::scan::{is_over, take_node};
 use crate::task_steps::{go_on_closing, go_on_opening};
-use job_places::Place;
 use node_sources::Sources;
 use plan_events::Job;
 use run_table::{RunTable, WorkerSeat};

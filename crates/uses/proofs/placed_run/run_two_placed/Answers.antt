@@ -1,6 +1,6 @@
 -- The places were asked for nothing yet.
 use Rattle.std.proofs.Common.{rules}
-use Rattle.job_places.specs.Leading.{are_as_came}
+use Rattle.workers.specs.Leading.{are_as_came}
 use Rattle.uses.specs.Counting.{counts_on}
 use Rattle.uses.proofs.placed_run.run_two_placed.Goals as goal
 

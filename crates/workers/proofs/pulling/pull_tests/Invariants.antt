@@ -3,8 +3,8 @@ use Rattle.descriptor.specs.Nodes.{body_of}
 use Rattle.scheduling.specs.declared.seat.Hand.{Hand}
 use Rattle.scheduling.specs.declared.task.Task.TheVariants.{Free}
 use Rattle.table_rule.specs.Picture.{gives_in, replies_in}
-use Rattle.job_places.specs.Leading.{GoesOnFrom}
 use Rattle.run_table.specs.Seats.{IsSeatOf}
+use Rattle.workers.specs.Leading.{GoesOnFrom}
 use Rattle.workers.specs.Inside.Answering.{GivesAfter, LeftAfter}
 use Rattle.workers.specs.Going.{GoesOn}
 use Rattle.workers.specs.Inside.Steady.{Steady, AtTests}

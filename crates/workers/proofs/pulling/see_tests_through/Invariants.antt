@@ -1,7 +1,7 @@
 use Rattle.std.proofs.Common.{ℕ}
-use Rattle.job_places.specs.Leading.{GoesOnFrom}
 use Rattle.run_table.specs.Seats.{IsSeatOf}
 use Rattle.workers.specs.Going.{GoesOn}
+use Rattle.workers.specs.Leading.{GoesOnFrom}
 use Rattle.workers.specs.Inside.Steady.{Steady, AtTests}
 use Rattle.workers.proofs.pulling.see_tests_through.Given as goal
 

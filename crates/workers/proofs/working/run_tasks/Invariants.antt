@@ -1,6 +1,6 @@
-use Rattle.job_places.specs.Leading.{GoesOnFrom}
 use Rattle.run_table.specs.Seats.{IsSeatOf}
 use Rattle.workers.specs.Going.{GoesOn}
+use Rattle.workers.specs.Leading.{GoesOnFrom}
 use Rattle.workers.specs.Inside.Steady.{Phase, Steady}
 use Rattle.workers.proofs.working.run_tasks.Given as goal
 

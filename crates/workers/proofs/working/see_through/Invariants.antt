@@ -1,6 +1,6 @@
-use Rattle.job_places.specs.Leading.{GoesOnFrom}
 use Rattle.run_table.specs.Seats.{IsSeatOf}
 use Rattle.workers.specs.Going.{GoesOn}
+use Rattle.workers.specs.Leading.{GoesOnFrom}
 use Rattle.workers.specs.Inside.Steady.{Steady, AtNodes}
 use Rattle.workers.proofs.working.see_through.Given as goal
 

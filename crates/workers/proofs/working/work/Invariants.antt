@@ -1,8 +1,8 @@
 use Rattle.std.proofs.Common.{◌≡◌, None}
 use Rattle.scheduling.specs.declared.task.Task.TheVariants.{Free}
-use Rattle.job_places.specs.Leading.{GoesOnFrom}
 use Rattle.run_table.specs.Seats.{IsSeatOf}
 use Rattle.workers.specs.Going.{GoesOn}
+use Rattle.workers.specs.Leading.{GoesOnFrom}
 use Rattle.workers.proofs.working.work.Given as goal
 
 abbrev pub invariant-loop : goal.invariant-loop

@@ -1,7 +1,7 @@
 //! Places that are lent to a run, and come back as those that came.
 
 ghost use Rattle.std.specs.Prelude.{◌≡◌, [], List, Option, IfErr, refl};
-ghost use Rattle.job_places.specs.Leading.{AreLedFrom, GoesOnFrom, IsLedFrom};
+ghost use Rattle.workers.specs.Leading.{AreLedFrom, GoesOnFrom, IsLedFrom};
 
 use crate::place::Place;
 use descriptor::NodeId;

@@ -1,5 +1,5 @@
-use Rattle.job_places.specs.Leading.{AreLedFrom}
-use Rattle.job_places.proofs.kept_place.take_back.Given as goal
+use Rattle.workers.specs.Leading.{AreLedFrom}
+use Rattle.workers.proofs.kept_place.take_back.Given as goal
 
 abbrev pub invariant-loop-kept : goal.invariant-loop-kept
 invariant-loop-kept g l = record {

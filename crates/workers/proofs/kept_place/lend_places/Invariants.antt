@@ -1,6 +1,6 @@
 use Rattle.std.proofs.Common.{◌≡◌, ◌≤◌, vec_len, vec_capacity}
-use Rattle.job_places.specs.Leading.{AreLedFrom}
-use Rattle.job_places.proofs.kept_place.lend_places.Given as goal
+use Rattle.workers.specs.Leading.{AreLedFrom}
+use Rattle.workers.proofs.kept_place.lend_places.Given as goal
 
 abbrev pub invariant-loop-number : goal.invariant-loop-number
 invariant-loop-number g l = record {

@@ -2,7 +2,7 @@
 
 ghost use Rattle.std.specs.Prelude.{◌≡◌, ◌<◌, [], length};
 ghost use Rattle.plan_events.specs.Jobs.{GivesOutcome, IsRun, unpulled};
-ghost use Rattle.job_places.specs.Leading.{GoesOnFrom};
+ghost use Rattle.workers.specs.Leading.{GoesOnFrom};
 
 use descriptor::NodeId;
 use plan_events::{Job, Outcome};

@@ -1,6 +1,6 @@
 -- What led to the place leads on, by the job that it was asked for.
 use Rattle.std.proofs.Math.Logic.{∥∥₁_map}
-use Rattle.job_places.proofs.kept_place.KeptPlacePlace.run.Goals as goal
+use Rattle.workers.proofs.kept_place.KeptPlacePlace.run.Goals as goal
 
 pub invariant_of-self : goal.invariant_of-self
 invariant_of-self g c = record {

@@ -1,2 +1,0 @@
--- What clauses say of places.
-pub mod Leading
