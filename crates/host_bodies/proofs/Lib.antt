@@ -1,2 +1,3 @@
--- Lemmas on lines.
+-- Lemmas on lines, and on jobs that were not run.
 pub mod Chunks
+pub mod Answering

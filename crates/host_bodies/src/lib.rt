@@ -6,6 +6,7 @@ mod answer;
 mod channel;
 mod heard;
 mod host_job;
+mod jobs;
 mod line;
 mod silence;
 
@@ -13,4 +14,5 @@ pub use answer::LONGEST_TEXT;
 pub use channel::Channel;
 pub use heard::{Answer, Heard};
 pub use host_job::HostJob;
+pub use jobs::host_jobs;
 pub use silence::Silence;

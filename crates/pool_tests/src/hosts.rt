@@ -3,8 +3,7 @@
 ghost use Rattle.std.specs.Prelude.{◌≤◌, length};
 
 use crate::running::{WIDE, is_said, say, show, staged};
-use host_bodies::{Channel, HostJob};
-use host_runs::host_jobs;
+use host_bodies::{Channel, HostJob, host_jobs};
 use plan_events::Status;
 use resource_locks::Plan;
 use std::alloc::{AllocError, Global};

@@ -5,10 +5,10 @@ ghost use Rattle.resource_locks.specs.Plans.{PlanParts};
 ghost use Rattle.worker_pool.specs.Premises.{JobsMayAnswer};
 ghost use Rattle.worker_pool.specs.Reports.{run_of};
 ghost use Rattle.host_bodies.specs.HostJobs.{replies_left};
-ghost use Rattle.host_runs.specs.Fresh.{are_fresh};
+ghost use Rattle.host_bodies.specs.Fresh.{are_fresh};
 
+use crate::host_job::HostJob;
 use descriptor::{BodyId, Kind, NodeId, Tree};
-use host_bodies::HostJob;
 use run_table::Jobs;
 use std::alloc::{AllocError, Global};
 

@@ -3,9 +3,9 @@ use Rattle.std.proofs.Common.{◌≡◌, ℕ, List, true, false, refl, sym, subs
 use Rattle.host_bodies.specs.HostJobs.{is_asked}
 use Rattle.host_bodies.specs.declared.heard.Heard.{Heard}
 use Rattle.host_bodies.specs.declared.host_job.HostJob.{HostJob}
-use Rattle.host_runs.specs.Fresh.{are_fresh}
-use Rattle.host_runs.proofs.Answering.{fresh_more}
-use Rattle.host_runs.proofs.jobs.push_job.Goals as goal
+use Rattle.host_bodies.specs.Fresh.{are_fresh}
+use Rattle.host_bodies.proofs.Answering.{fresh_more}
+use Rattle.host_bodies.proofs.jobs.push_job.Goals as goal
 
 pub returns : goal.returns
 returns c each =

@@ -11,7 +11,7 @@ use Rattle.host_bodies.specs.HostJobs.{is_asked, replies_left}
 use Rattle.host_bodies.specs.Replies.{replies_by}
 use Rattle.host_bodies.specs.declared.host_job.HostJob.{HostJob}
 use Rattle.test_bodies.proofs.Replying.{some_left, some_unpulled}
-use Rattle.host_runs.specs.Fresh.{are_fresh}
+use Rattle.host_bodies.specs.Fresh.{are_fresh}
 
 first_true : (a b : Bool) → (a && b) ≡ true → a ≡ true
 first_true true b q = refl

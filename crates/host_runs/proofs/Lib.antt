@@ -1,2 +1,0 @@
--- Jobs that were not run may answer.
-pub mod Answering
