@@ -1,7 +1,7 @@
 //! Questions about moments: what a clock shows that stands still, or cannot be read.
 
 use run_answers::say;
-use run_moments::moment_by;
+use job_times::moment_by;
 use std::alloc::Global;
 use std::io;
 use std::time::{Clock, Duration};

@@ -1,7 +1,6 @@
 //! What takes note of when tests begin and end, and the table of times of a run.
 
-use job_times::{JobTimes, RunTimes, Stopwatch, Timings};
-use run_moments::moment_by;
+use job_times::{JobTimes, RunTimes, Stopwatch, Timings, moment_by};
 use std::alloc::Global;
 use std::time::Clock;
 

@@ -3,8 +3,8 @@
 ghost use Rattle.std.specs.Prelude.{◌≡◌, ◌↔◌, ◌<◌, ◌/◌, ◌%◌, ◌++◌, pos, OnOk, IfOk, IfSome, IsSome, string_bytes};
 ghost use Rattle.jiff_core.specs.Date.{epoch_day};
 ghost use Rattle.jiff_core.specs.Time.{time_seconds};
-ghost use Rattle.run_moments.specs.MomentTexts.{IsMomentText, four_digits, two_digits};
-ghost use Rattle.run_moments.specs.Moments.{IsMomentOf, date_text, moment_text, time_text};
+ghost use Rattle.job_times.specs.MomentTexts.{IsMomentText, four_digits, two_digits};
+ghost use Rattle.job_times.specs.Moments.{IsMomentOf, date_text, moment_text, time_text};
 
 use jiff_core::civil::{Date, Time};
 use std::alloc::{AllocError, Global};

@@ -8,8 +8,8 @@ use Rattle.jiff_core.specs.Date.{epoch_day}
 use Rattle.jiff_core.proofs.CalendarLemmas.{day_count-epoch, day_count-lt_year, days_from_civil-day_count}
 use Rattle.jiff_core.proofs.DateLemmas.{civil}
 use Rattle.jiff_core.proofs.SignedLemmas.{signed_arith}
-use Rattle.run_moments.specs.MomentTexts.{IsMomentText}
-use Rattle.run_moments.specs.Moments.{IsMomentOf}
+use Rattle.job_times.specs.MomentTexts.{IsMomentText}
+use Rattle.job_times.specs.Moments.{IsMomentOf}
 
 -- its year is not before 1970
 late_year : (d : Date) (k : ℕ) → epoch_day d ≡ pos k → pos 1970 ≤ℤ d.year

@@ -4,7 +4,7 @@ use Rattle.jiff_core.specs.declared.civil.date.Date.{Date}
 use Rattle.jiff_core.specs.declared.civil.time.Time.{Time}
 use Rattle.jiff_core.specs.Date.{epoch_day}
 use Rattle.jiff_core.specs.Time.{time_seconds}
-use Rattle.run_moments.specs.MomentTexts.{date_by, time_by}
+use Rattle.job_times.specs.MomentTexts.{date_by, time_by}
 
 -- a date whose year is not negative
 abbrev pub date_text : Date → List ℕ

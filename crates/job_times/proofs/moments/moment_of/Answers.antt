@@ -1,9 +1,9 @@
 -- The text is that of the date and of the time of day.
 use Rattle.std.proofs.Common.{string_bytes}
 use Rattle.std.proofs.lemmas.Result.{IfOk-weaker}
-use Rattle.run_moments.specs.Moments.{IsMomentOf}
-use Rattle.run_moments.proofs.Given.{given}
-use Rattle.run_moments.proofs.moments.moment_of.Goals as goal
+use Rattle.job_times.specs.Moments.{IsMomentOf}
+use Rattle.job_times.proofs.Given.{given}
+use Rattle.job_times.proofs.moments.moment_of.Goals as goal
 
 pub returns : goal.returns
 returns c =

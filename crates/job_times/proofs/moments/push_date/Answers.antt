@@ -2,9 +2,9 @@
 use Rattle.std.proofs.Common.{◌∙◌, ◌++◌, ◌^◌, ◌<◌, ℕ, ℤ, unsigned_abs, ap, arith, w16, string_bytes}
 use Rattle.std.proofs.lemmas.Result.{on_ok_weaker}
 use Rattle.jiff_core.proofs.SignedLemmas.{back_small, one_part, signed_arith}
-use Rattle.run_moments.specs.MomentTexts.{two_digits, four_digits}
-use Rattle.run_moments.proofs.Growing.{then}
-use Rattle.run_moments.proofs.moments.push_date.Goals as goal
+use Rattle.job_times.specs.MomentTexts.{two_digits, four_digits}
+use Rattle.job_times.proofs.Growing.{then}
+use Rattle.job_times.proofs.moments.push_date.Goals as goal
 
 pub returns : goal.returns
 returns c =

@@ -1,3 +1,0 @@
--- The definitions that contracts cite.
-pub mod MomentTexts
-pub mod Moments
