@@ -6,7 +6,7 @@ use command_line::{is_drawn_on, run_main};
 use report_files::SystemFiles;
 use std::io::{self, IsTerminal};
 use std::process::ExitCode;
-use system_facts::{SystemFacts, SystemTexts};
+use word_files::{SystemFacts, SystemTexts};
 
 fn main(rt: HostRuntime) -> ExitCode {
     let words = std::env::args(&rt);

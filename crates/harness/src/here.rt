@@ -19,8 +19,8 @@ use std::io::{IsTerminal, Write};
 use std::sync::Wait;
 use std::thread::Threads;
 use std::time::Clock;
-use system_facts::{SystemFacts, SystemTexts};
 use test_tree::{BuildFault, Tests};
+use word_files::{SystemFacts, SystemTexts};
 
 /// What a program of tests asks of the system: `main` has it.
 pub trait System: Threads + Wait + Sync + Clock + Env + Files + AllocGlobal {}

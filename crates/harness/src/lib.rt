@@ -20,7 +20,6 @@ pub use plan_events::{Event, EventKind, Status, Texts};
 pub use report_files::{ReportFiles, SystemFiles};
 pub use resource_locks::Plan;
 pub use run::run_tests;
-pub use system_facts::{SystemFacts, SystemTexts};
 pub use test_bodies::{Checked, Stop, TestBox, TestFn, assume, check, check_same};
 pub use test_tree::{BuildFault, ClassId, EngineId, FactoryId, NamedTest, Tests, named};
-pub use word_files::{Facts, TextFiles};
+pub use word_files::{Facts, SystemFacts, SystemTexts, TextFiles};

@@ -1,9 +1,9 @@
 //! Texts in files of the system.
 
+use crate::files::TextFiles;
 use std::alloc::{AllocError, Global};
 use std::fs::{self, File, Files};
 use std::io::{self, ErrorKind, Read};
-use word_files::TextFiles;
 
 /// The texts of the files of a system, by their paths.
 #[derive(Drop)]

@@ -1,10 +1,10 @@
 //! What the system tells.
 
+use crate::facts::Facts;
 use std::env::{Env, var};
 use std::fs::{self, File, Files};
 use std::thread::{Threads, available_parallelism};
 use std::time::{Clock, SystemTime};
-use word_files::Facts;
 
 /// Where Linux tells the name of the machine.
 const HOST_NAME_FILE: &str = "/proc/sys/kernel/hostname";
