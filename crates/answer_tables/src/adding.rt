@@ -4,10 +4,10 @@
 //! else in READ_WRITE.
 
 use crate::tags::add_tag;
+use crate::words::{cut, key_and_value, node_of, push_fault, say, show, text_of};
 use descriptor::{
     BodyId, Kind, Lock, LockMode, Mode, Node, NodeId, NodeLimit, Role, TreeBuilder, TreeFault,
 };
-use run_answers::{cut, key_and_value, node_of, push_fault, say, show, text_of};
 use std::alloc::Global;
 use unique_id::{Text, UniqueId};
 

@@ -1,7 +1,7 @@
 //! The parameters that a row puts in, and what was refused on the way.
 
+use crate::words::{PREFIX, key_and_value, say, show};
 use config_params::{Params, ParamsFault, Settings, SettingsFault, Source, pair_of};
-use run_answers::{PREFIX, key_and_value, say, show};
 use std::alloc::Global;
 
 /// Puts one token into a source; the number is the item's.

@@ -1,6 +1,6 @@
 //! Questions about unique ids.
 
-use run_answers::{cut, key_and_value, push_refusal, quote, say, show};
+use crate::words::{cut, key_and_value, push_refusal, quote, say, show};
 use std::alloc::Global;
 use unique_id::{Segment, UidFault, UniqueId};
 

@@ -1,8 +1,8 @@
 //! Questions about the locks that two nodes hold, and the text of locks.
 
+use crate::words::{cut, node_of, say, show};
 use descriptor::{Lock, LockMode};
 use resource_locks::{LockSet, Plan};
-use run_answers::{cut, node_of, say, show};
 use std::alloc::Global;
 
 fn lock_word(mode: LockMode) -> &'static str {

@@ -1,6 +1,6 @@
 //! Questions about moments: what a clock shows that stands still, or cannot be read.
 
-use run_answers::say;
+use crate::words::say;
 use job_times::moment_by;
 use std::alloc::Global;
 use std::io;

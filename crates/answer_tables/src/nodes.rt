@@ -4,8 +4,8 @@ ghost use Rattle.std.specs.Prelude.{◌<◌};
 ghost use Rattle.descriptor.specs.Nodes.{size};
 
 use crate::suites::push_nodes;
+use crate::words::{quote, say, show};
 use descriptor::{BodyId, Kind, NodeId, Tree};
-use run_answers::{quote, say, show};
 use tag_expr::TagSet;
 
 fn kind_word(kind: Kind) -> &'static str {

@@ -1,11 +1,12 @@
 //! The plan of a tree under a configuration: how each node is executed, which locks it holds meanwhile, and its runs.
 
 use crate::configuration::requested;
+use crate::histories::{cut_steps, push_history, tolerated_by};
 use crate::lock_sets::{push_locks, push_locks_answer};
+use crate::words::{push_fault, say, show};
 use config_params::{Settings, modes};
 use descriptor::{Mode, Node, NodeId, Tree};
 use resource_locks::{Plan, hoist};
-use run_answers::{cut_steps, push_fault, push_history, say, show, tolerated_by};
 use std::alloc::Global;
 
 fn mode_word(mode: Mode) -> &'static str {

@@ -2,7 +2,7 @@
 //! before it for `{<}`, and so many levels of indentation for `{>}`. Their answer is the last one's.
 
 use crate::table::Table;
-use run_answers::{say, show};
+use crate::words::{say, show};
 use std::alloc::Global;
 
 /// Adds what a mark stands for, of which the brace is cut off, and what follows it.

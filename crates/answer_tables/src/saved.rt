@@ -1,6 +1,6 @@
 //! Questions about saved runs.
 
-use run_answers::{push_refusal, say};
+use crate::words::{push_refusal, say};
 use saved_runs::{Again, SavedRun};
 use std::alloc::Global;
 use unique_id::UniqueId;

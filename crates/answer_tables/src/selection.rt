@@ -1,7 +1,7 @@
 //! What a request finds in a tree.
 
+use crate::words::{key_and_value, push_refusal, say, show};
 use descriptor::{NodeId, Tree};
-use run_answers::{key_and_value, push_refusal, say, show};
 use selectors::{Request, Selector, SelectorKind, discover};
 use std::alloc::Global;
 use tag_expr::TagExpr;

@@ -3,8 +3,8 @@
 
 use crate::configuration::put_items;
 use crate::suites::push_value;
+use crate::words::{quote, say, show, subject_and_text};
 use config_params::{Params, Settings};
-use run_answers::{quote, say, show, subject_and_text};
 use std::alloc::Global;
 
 /// Adds what settings ask for, and the keys that they warn of.

@@ -2,9 +2,9 @@
 
 use crate::selection::selector_kind;
 use crate::trees::push_suite_answer;
+use crate::words::{key_and_value, push_fault, push_refusal, quote, say, show};
 use config_params::Params;
 use descriptor::Tree;
-use run_answers::{key_and_value, push_fault, push_refusal, quote, say, show};
 use scheduling::Step;
 use selectors::Selector;
 use std::alloc::Global;

@@ -1,9 +1,10 @@
 //! What was read of a section so far.
 
 use crate::adding::push_added;
+use crate::runs::push_run_answer;
+use crate::words::{cut, show};
 use crate::{texts, trees};
 use descriptor::TreeBuilder;
-use run_answers::{cut, push_run_answer, show};
 use std::alloc::{AllocError, Global};
 
 /// What the questions of a section are about.

@@ -1,6 +1,6 @@
 //! Questions about tags and tag expressions.
 
-use run_answers::{push_refusal, quote, show};
+use crate::words::{push_refusal, quote, show};
 use std::alloc::Global;
 use tag_expr::{TagExpr, TagSet, tag_of};
 

@@ -1,9 +1,10 @@
 //! Questions about texts: what is asked, a blank and the text.
 
 use crate::escapes::push_plain;
+use crate::events::push_event;
 use crate::trees::push_suite_answer;
+use crate::words::{cut, say, subject_and_text};
 use crate::{ids, moments, saved, settings, suites, tags};
-use run_answers::{cut, push_event, say, subject_and_text};
 use std::alloc::Global;
 use unique_id::UniqueId;
 

@@ -5,8 +5,8 @@ use crate::nodes::{push_nodes_text, push_tags_text};
 use crate::plans::{push_declarations, push_planned};
 use crate::selection::push_found;
 use crate::suites::{push_nodes, push_value};
+use crate::words::{cut, node_of, push_refusal, quote, say, show};
 use descriptor::Tree;
-use run_answers::{cut, node_of, push_refusal, quote, say, show};
 use std::alloc::Global;
 use suite_text::{Script, Suite};
 

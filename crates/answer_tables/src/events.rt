@@ -31,7 +31,7 @@ fn push_read(answer: &mut String, event: &Event, word: u64) {
 }
 
 /// Adds the event of a word of hexadecimal digits, and the word of that event.
-pub fn push_event(answer: &mut String, digits: &str) {
+pub(crate) fn push_event(answer: &mut String, digits: &str) {
     let Ok(word) = u64::from_str_radix(digits, 16) else {
         say(answer, " => no number");
         return;

@@ -6,50 +6,50 @@ use std::fmt::{Debug, Display};
 use unique_id::Text;
 
 /// What the keys of a configuration begin with.
-pub const PREFIX: &str = "junit.jupiter.execution.parallel.";
+pub(crate) const PREFIX: &str = "junit.jupiter.execution.parallel.";
 
 /// What stands before the first blank, and what behind it.
-pub fn cut(text: &str) -> (&str, &str) {
+pub(crate) fn cut(text: &str) -> (&str, &str) {
     text.split_once(' ').unwrap_or((text, ""))
 }
 
 /// The two sides of an assignment.
-pub fn key_and_value(word: &str) -> (&str, &str) {
+pub(crate) fn key_and_value(word: &str) -> (&str, &str) {
     word.split_once('=').unwrap_or((word, ""))
 }
 
 /// What stands before the first bar, and what behind it.
-pub fn subject_and_text(text: &str) -> (&str, &str) {
+pub(crate) fn subject_and_text(text: &str) -> (&str, &str) {
     text.split_once('|').unwrap_or((text, ""))
 }
 
 /// The node of this number.
-pub fn node_of(digits: &str) -> NodeId {
+pub(crate) fn node_of(digits: &str) -> NodeId {
     NodeId::new(digits.parse().unwrap_or(0))
 }
 
 /// Adds a text.
-pub fn say(answer: &mut String, text: &str) {
+pub(crate) fn say(answer: &mut String, text: &str) {
     let _ = answer.push_str(text);
 }
 
 /// The text of these characters.
-pub fn text_of(alloc: Global, said: &str) -> Text {
+pub(crate) fn text_of(alloc: Global, said: &str) -> Text {
     Text::new(alloc, said).unwrap_or(Text::empty())
 }
 
 /// Adds a text, and a value behind it.
-pub fn show<T: Display + Copy>(answer: &mut String, text: &str, value: T) {
+pub(crate) fn show<T: Display + Copy>(answer: &mut String, text: &str, value: T) {
     let _ = write!(answer, "{text}{value}");
 }
 
 /// Adds a text, and behind it a value as it would be written in a program.
-pub fn quote<T: Debug + Copy>(answer: &mut String, text: &str, value: T) {
+pub(crate) fn quote<T: Debug + Copy>(answer: &mut String, text: &str, value: T) {
     let _ = write!(answer, "{text}{value:?}");
 }
 
 /// Adds a refusal: its number, where it is about a place that place, and what it says.
-pub fn push_refusal<F: Display, P: Display + Copy>(
+pub(crate) fn push_refusal<F: Display, P: Display + Copy>(
     answer: &mut String,
     number: u8,
     place: Option<P>,
@@ -63,6 +63,6 @@ pub fn push_refusal<F: Display, P: Display + Copy>(
 }
 
 /// Adds a refusal that is about no place.
-pub fn push_fault<F: Display>(answer: &mut String, number: u8, fault: &F) {
+pub(crate) fn push_fault<F: Display>(answer: &mut String, number: u8, fault: &F) {
     push_refusal(answer, number, None::<u8>, fault)
 }

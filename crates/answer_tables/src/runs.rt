@@ -49,7 +49,13 @@ fn push_answer(alloc: Global, answer: &mut String, run: Run, asked: &str, words:
 }
 
 /// Adds the answer to what is asked of the runs of the suite of a text.
-pub fn push_run_answer(alloc: Global, answer: &mut String, suite: &str, asked: &str, words: &str) {
+pub(crate) fn push_run_answer(
+    alloc: Global,
+    answer: &mut String,
+    suite: &str,
+    asked: &str,
+    words: &str,
+) {
     match Run::of(alloc, suite) {
         Some(run) => push_answer(alloc, answer, run, asked, words),
         None => say(answer, " => no suite"),

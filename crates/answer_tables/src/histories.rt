@@ -53,12 +53,12 @@ fn answers_of(alloc: Global, words: &str) -> Answers {
 }
 
 /// What stands before the steps, and the steps.
-pub fn cut_steps(words: &str) -> (&str, &str) {
+pub(crate) fn cut_steps(words: &str) -> (&str, &str) {
     words.split_once(" : ").unwrap_or((words, ""))
 }
 
 /// How many failures a run goes on after, if one of these tokens says after how many it stops.
-pub fn tolerated_by(words: &str) -> Option<u16> {
+pub(crate) fn tolerated_by(words: &str) -> Option<u16> {
     for word in words.split(' ') {
         if word == "fail-fast" {
             return Some(0);
@@ -148,7 +148,13 @@ pub(crate) fn push_stepped(
 
 /// Adds what a run of the plan leaves whose bodies answer by the tokens; steps are taken by as many workers as the
 /// first of them says.
-pub fn push_history(alloc: Global, answer: &mut String, plan: &Plan, asked: &str, words: &str) {
+pub(crate) fn push_history(
+    alloc: Global,
+    answer: &mut String,
+    plan: &Plan,
+    asked: &str,
+    words: &str,
+) {
     let (replies, steps) = cut_steps(words);
     let answers = answers_of(alloc, replies);
     match asked {
