@@ -14,6 +14,16 @@
 //! shelf as the arguments ask for, as a program of these tests alone would.
 #![tactic(auto)]
 
+mod answers;
+mod memory_files;
+mod output;
+mod own_tests;
+mod rows;
+mod table;
+mod table_clock;
+mod texts;
+
+use crate::table::print_rows;
 use answer_tables::print_answers;
 use behaviour_tests::print_behaviours;
 use example_tests::run_shelf_tests;
@@ -21,7 +31,6 @@ use harness::{System, exit_code};
 use std::env::{Env, args};
 use std::io::{self, IsTerminal, Write};
 use std::process::ExitCode;
-use table_rows::print_rows;
 
 /// The line above the questions.
 const QUESTIONS: &str = "=== texts\n";

@@ -5,6 +5,7 @@ use crate::output::Output;
 use crate::rows::push_suite_line;
 use crate::texts::Texts;
 use std::alloc::{AllocError, Global};
+use std::io::{self, Write};
 use std::sync::Wait;
 use std::thread::Threads;
 
@@ -99,4 +100,23 @@ impl Table {
     pub(crate) fn answers(&self) -> &[u8] {
         self.answers.taken.as_slice()
     }
+}
+
+/// Prints the rows of a text with what they ask for.
+///
+/// # Errors
+///
+/// If there is no memory, or the writer fails.
+pub(crate) fn print_rows<T: Threads + Wait + Sync, W: Write>(
+    rt: &T,
+    alloc: Global,
+    text: &str,
+    writer: &mut W,
+) -> io::Result<()> {
+    let mut table = Table::new(alloc);
+    for line in text.lines() {
+        table.take(rt, alloc, line)?;
+    }
+    table.run(rt, alloc)?;
+    writer.write_all(table.answers())
 }
