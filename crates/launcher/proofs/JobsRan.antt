@@ -22,7 +22,7 @@ use Rattle.table_rule.specs.Picture.{AreAmong, given_by, replies_of}
 use Rattle.table_rule.specs.Reached.{Agrees}
 use Rattle.table_rule.proofs.MoreReplies.{wide_legal, wide_text}
 use Rattle.worker_pool.specs.Reports.{run_of, AreTexts, IsReport, IsToldAsSaid}
-use Rattle.replays.proofs.Agreeing.{agreeing}
+use Rattle.schedules.proofs.Agreeing.{agreeing}
 use Rattle.listeners.specs.Observing.{HasSeenMore}
 use Rattle.launch_options.specs.Asked.{Asked}
 use Rattle.run_outputs.specs.declared.exit_status.ExitStatus.{ExitStatus}

@@ -30,7 +30,7 @@ use Rattle.table_contents.specs.Prepared.{HasAllJobs}
 use Rattle.worker_pool.proofs.Handed.{body_inside, after_inside, replies_found}
 use Rattle.worker_pool.specs.Premises.{JobsMayAnswer}
 use Rattle.worker_pool.specs.Reports.{run_of}
-use Rattle.replays.specs.Schedules.{AgreesAsAsked}
+use Rattle.schedules.specs.Replays.{AgreesAsAsked}
 use Rattle.ready_runs.specs.declared.scripted.ScriptedJob.{ScriptedJob}
 use Rattle.ready_runs.specs.Scripted.{replies_left, asked_reply, is_pulled_slot, IsScripted, AreScripted}
 

@@ -14,8 +14,8 @@ use Rattle.listeners.specs.Listeners.{Telling}
 use Rattle.table_rule.specs.Picture.{replies_of}
 use Rattle.table_rule.specs.Slots.{slot_count}
 use Rattle.worker_pool.specs.Reports.{run_of, IsReport}
-use Rattle.replays.specs.Schedules.{HasSchedule}
-use Rattle.replays.proofs.Scheduled.{scheduled}
+use Rattle.schedules.specs.Replays.{HasSchedule}
+use Rattle.schedules.proofs.Scheduled.{scheduled}
 use Rattle.launch_options.specs.Asked.{Asked}
 use Rattle.launch_options.specs.declared.fault.LaunchFault.{LaunchFault}
 use Rattle.run_outputs.specs.declared.exit_status.ExitStatus.{ExitStatus}

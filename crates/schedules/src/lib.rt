@@ -1,6 +1,6 @@
 #![tactic(auto)]
 
-//! A list of steps that leads to a history, found from the history alone.
+//! Lists of steps that lead to a history: one is found from the history alone, and there is one of what threads report.
 
 mod after;
 mod before;

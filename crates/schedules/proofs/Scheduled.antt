@@ -35,8 +35,8 @@ use Rattle.sched_core.specs.Steps.{reply_awaited, reply_for, after_step}
 use Rattle.never_stuck.specs.Reaching.{AllGiven, answer, reply_by}
 use Rattle.table_rule.specs.Picture.{AnswerOnce}
 use Rattle.table_rule.specs.Reached.{Agrees, IsHistoryOfRun, IsRunOfCore}
-use Rattle.replays.specs.Schedules.{AgreesAsAsked, HasSchedule}
-use Rattle.replays.proofs.AskedFor.{retold_run}
+use Rattle.schedules.specs.Replays.{AgreesAsAsked, HasSchedule}
+use Rattle.schedules.proofs.AskedFor.{retold_run}
 
 module _ (p : PlanParts) (answers : List (ℕ × Reply)) where
   -- what is awaited is what was handed in for it

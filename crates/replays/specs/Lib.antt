@@ -1,2 +1,0 @@
--- What has a schedule.
-pub mod Schedules

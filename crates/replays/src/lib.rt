@@ -1,2 +1,0 @@
-//! What threads report has a schedule: steps of the core that lead to just that.
-#![tactic(auto)]
