@@ -2,7 +2,7 @@
 
 use crate::program::{SUITE, feed_options};
 use job_times::{NoStopwatch, RunTimes, Timings};
-use launcher::run_options_watched;
+use launcher::{Launched, ScriptedJob, launch_text};
 use listeners::{Audience, Listener, Recorder};
 use pool_tests::push_events;
 use std::alloc::Global;
@@ -16,7 +16,7 @@ fn hears<T: Threads + Wait + Sync>(rt: &T, alloc: Global, audience: &mut Audienc
     let stopwatch = NoStopwatch;
     let mut times = RunTimes::new(&stopwatch, Timings::none(alloc));
     let options = feed_options(alloc);
-    run_options_watched(
+    let launched: Launched<ScriptedJob> = launch_text(
         rt,
         alloc,
         &options,
@@ -24,8 +24,8 @@ fn hears<T: Threads + Wait + Sync>(rt: &T, alloc: Global, audience: &mut Audienc
         &mut writer,
         audience,
         &mut times,
-    )
-    .ok()?;
+    );
+    launched.answer.ok()?;
     let mut told = String::new(alloc);
     push_events(&mut told, audience.got(0)?);
     Some(told.as_str() == "+0 +1 +2 +3 -3 -2 -1 -0 ")

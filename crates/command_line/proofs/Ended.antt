@@ -64,14 +64,3 @@ closes_run sentence contents said (Err fault) slowest old new quiet told last en
   passed_over = refl;
   listed = all;
 }
-
--- of what was refused no list is made
-pub closes_refused : {W E : Type 0} (sentence : Sentences) (contents : W → Option (List ℕ)) (said : E → Option (List ℕ)) (fault : LaunchFault) (old new : W) (quiet told : E) (ending : Ending) → Closes sentence contents said (Err fault) old new quiet told ending
-    → ClosesRun sentence contents said (Err fault) None old new quiet told ending
-closes_refused sentence contents said fault old new quiet told ending closes = record {
-  before = told;
-  warned = told;
-  closes = closes;
-  passed_over = refl;
-  listed = refl;
-}

@@ -1,3 +1,5 @@
+-- Lemmas on command lines.
+pub mod Commanded
 pub mod Ended
 pub mod GoneOut
 pub mod Running

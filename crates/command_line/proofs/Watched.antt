@@ -1,28 +1,46 @@
 -- What follows of one who watched a run, whatever was run.
-use Rattle.std.proofs.Common.{◌≡◌, ℕ, Bool, true, false, List, [], Option, inl, inr, refl, sym, subst}
+use Rattle.std.proofs.Common.{◌≡◌, ℕ, true, false, List, [], Option, Some, None, refl, sym, ap, subst, append-nil}
 use Rattle.resource_locks.specs.Plans.{PlanParts}
-use Rattle.listeners.specs.Listeners.{Telling}
+use Rattle.listeners.specs.Listeners.{Telling, tellings_of}
 use Rattle.listeners.specs.Observing.{HasSeenMore}
-use Rattle.live.proofs.Drawing.{begun, drawn_still, left, none_drawn}
+use Rattle.live.proofs.Drawing.{begun, drawn_still, left}
 use Rattle.live.specs.Terminals.{HasFollowed, IsDrawnBehind, IsDrawnOn, is_done}
 use Rattle.live.proofs.SlowWriting.{untouched}
 use Rattle.live.proofs.SlowWriting.{begun as lines_begun}
-use Rattle.live.proofs.Written.{none_written, written_still}
+use Rattle.live.proofs.Written.{written_still}
 use Rattle.live.specs.SlowNames.{AreNamedBehind, HasNamed, IsWrittenOn}
 use Rattle.live.specs.SlowNaming.{Slow, slow_line}
 use Rattle.live.specs.declared.progress.Progress.{Progress}
 use Rattle.live.specs.declared.slow_lines.SlowLines.{SlowLines}
-use Rattle.launcher.specs.ReportedRuns.{HasSeenSome}
-use Rattle.command_line.specs.Runs.{IsToldMeanwhile}
+use Rattle.launcher.specs.Launches.{Sees}
+use Rattle.report_files.specs.Besides.{BothSaw}
+use Rattle.report_files.specs.declared.beside.Beside.{Beside}
+use Rattle.worker_pool.specs.declared.report.Report.{Report}
 
--- nothing was named
-pub none_named : (a : Option (List ℕ)) → AreNamedBehind a a
-none_named a = ([], none_written slow_line a true)
+-- who is as it was has seen nothing more
+nothing_seen : {L : Type 0} (saw : PlanParts → L → L → List Telling → Type 0) (p : PlanParts) (a : L) → HasSeenMore saw p [] a a
+nothing_seen saw p a first before is = subst (saw p first a) (sym (append-nil before)) is
 
--- nothing was told meanwhile
-pub none_told : (is_terminal : Bool) (a : Option (List ℕ)) → IsToldMeanwhile is_terminal a a
-none_told true a = none_drawn a true
-none_told false a = none_named a
+-- of two who watched one run each is the same still, and each has seen it
+module _ {V D : Type 0} (saw : PlanParts → V → V → List Telling → Type 0) (beside : PlanParts → D → D → List Telling → Type 0) (first now : Beside V D) where
+  both_seen : (p : PlanParts) (ts : List Telling) → HasSeenMore (BothSaw saw beside) p ts first now → BothSaw saw beside p first now ts
+  both_seen p ts more = more first [] (record { same = refl; same_other = refl; seen = nothing_seen saw p first.observer.now; other = nothing_seen beside p first.other.now })
+
+  pub pair_same : {B : Type 0} (ran : Option (Report B)) → Sees (BothSaw saw beside) first now ran → now.observer.ghost_name ≡ first.observer.ghost_name
+  pair_same (Some ran) more = (both_seen ran.plan (tellings_of ran.texts ran.events.items) more).same
+  pair_same None is = ap (λ (w : Beside V D). w.observer.ghost_name) is
+
+  pub pair_same_other : {B : Type 0} (ran : Option (Report B)) → Sees (BothSaw saw beside) first now ran → now.other.ghost_name ≡ first.other.ghost_name
+  pair_same_other (Some ran) more = (both_seen ran.plan (tellings_of ran.texts ran.events.items) more).same_other
+  pair_same_other None is = ap (λ (w : Beside V D). w.other.ghost_name) is
+
+  pub pair_watched : {B : Type 0} (ran : Option (Report B)) → Sees (BothSaw saw beside) first now ran → Sees saw first.observer.now now.observer.now ran
+  pair_watched (Some ran) more = (both_seen ran.plan (tellings_of ran.texts ran.events.items) more).seen
+  pair_watched None is = ap (λ (w : Beside V D). w.observer.now) is
+
+  pub pair_other : {B : Type 0} (ran : Option (Report B)) → Sees (BothSaw saw beside) first now ran → Sees beside first.other.now now.other.now ran
+  pair_other (Some ran) more = (both_seen ran.plan (tellings_of ran.texts ran.events.items) more).other
+  pair_other None is = ap (λ (w : Beside V D). w.other.now) is
 
 module _ {E C V : Type 0} (contents : E → Option (List ℕ)) (first now : SlowLines E C V) where
   abbrev Named : Type 0
@@ -35,9 +53,9 @@ module _ {E C V : Type 0} (contents : E → Option (List ℕ)) (first now : Slow
   named p ts more = let has = more first [] (lines_begun contents p first) in (has.said, has.written)
 
   -- one that names slow tests wrote lines of these
-  pub named_by_some : HasSeenSome (HasNamed contents) first now → (said : List Slow) × IsWrittenOn contents first now said
-  named_by_some (inl same) = silent same
-  named_by_some (inr seen) = named seen.0 seen.1 seen.2
+  pub named_by_run : {B : Type 0} (ran : Option (Report B)) → Sees (HasNamed contents) first now ran → (said : List Slow) × IsWrittenOn contents first now said
+  named_by_run (Some ran) more = named ran.plan (tellings_of ran.texts ran.events.items) more
+  named_by_run None same = silent same
 
   -- and so these stand behind what the writer held
   pub named_behind_it : (said : List Slow) × IsWrittenOn contents first now said → AreNamedBehind (contents first.errors.now) (contents now.errors.now)
@@ -51,9 +69,9 @@ module _ {E C : Type 0} (contents : E → Option (List ℕ)) (first now : Progre
   followed p ts more = (more first [] (begun contents p first)).drawn
 
   -- one that draws was drawn on
-  pub drawn_by_some : HasSeenSome (HasFollowed contents) first now → IsDrawnOn contents first now
-  drawn_by_some (inl same) = unseen same
-  drawn_by_some (inr seen) = followed seen.0 seen.1 seen.2
+  pub drawn_by_run : {B : Type 0} (ran : Option (Report B)) → Sees (HasFollowed contents) first now ran → IsDrawnOn contents first now
+  drawn_by_run (Some ran) more = followed ran.plan (tellings_of ran.texts ran.events.items) more
+  drawn_by_run None same = unseen same
 
   -- and so there are drawings behind what it held
   pub drawn_behind_it : IsDrawnOn contents first now → IsDrawnBehind (contents first.terminal.now) (contents now.terminal.now)

@@ -1,13 +1,12 @@
--- What the program reads and writes by the arguments of its command line.
+-- What is written of an answer and of a run, on the one writer and on the other.
 use Rattle.std.specs.Prelude.{◌≡◌, ◌<◌, ◌⊎◌, ◌++◌, ℕ, Bool, true, false, List, codes, length, take, string_bytes, Option, Some, None, IfErr, IfOk, IfSome, IsSomeAnd, Result, Ok, Err}
 use Rattle.std.specs.Fmt.{decimal}
 use Rattle.std.specs.Io.KnownBytes.{Appends, Keeps}
 use Rattle.launch_options.specs.Given.{Text}
-use Rattle.launch_options.specs.Asked.{Asked, asked_by}
+use Rattle.launch_options.specs.Asked.{Asked}
 use Rattle.run_outputs.specs.AfterRuns.{line_after}
 use Rattle.run_outputs.specs.ExitStatuses.{number_of, status_after}
 use Rattle.launch_options.specs.Faults.{refusal_text}
-use Rattle.launch_options.specs.declared.asked.Options.{Options}
 use Rattle.run_outputs.specs.declared.exit_status.ExitStatus.{ExitStatus}
 use Rattle.run_outputs.specs.declared.exit_status.ExitStatus.TheVariants.{StepsPassedOver}
 use Rattle.launch_options.specs.declared.fault.LaunchFault.{LaunchFault}
@@ -24,56 +23,11 @@ use Rattle.live.specs.Terminals.{IsDrawnBehind}
 use Rattle.live.specs.declared.failures.Failures.{Failures}
 use Rattle.report_files.specs.Deeds.{Deed}
 use Rattle.report_files.specs.FiledReports.{Wanted}
-use Rattle.launcher.specs.FiledRuns.{RunsAsked, RunsFiled}
-use Rattle.launcher.specs.SlowestRuns.{IsSlowestRun}
-use Rattle.command_words.specs.Infos.{AsksForNothing}
-use Rattle.command_words.specs.Words.{ReadsWords, reports_wanted, suite_wanted}
+use Rattle.listeners.specs.Listeners.{Telling}
+use Rattle.resource_locks.specs.Plans.{PlanParts}
+use Rattle.worker_pool.specs.declared.report.Report.{Report}
+use Rattle.command_line.specs.TimedLaunches.{IsTimedLaunch}
 use Rattle.command_line.specs.declared.closing.Ending.{Ending}
-
-module _ {R W : Type 0} (remaining : R → Option (List ℕ)) (contents : W → Option (List ℕ)) where
-  -- what is done with what the arguments gave: options are run, and this is left to read; a refusal is answered, and neither reader nor
-  -- writer is touched
-  abbrev pub RunsOptions : Result Options LaunchFault → (before after : R) → (left : Option (List ℕ)) → (old new : W) → Result ExitStatus LaunchFault → Type 0
-  RunsOptions (Ok options) before after left old new result = RunsAsked (asked_by options) (remaining before) left (contents old) (contents new) result
-  RunsOptions (Err fault) before after left old new result = (result ≡ Err fault) × (after ≡ before) × (new ≡ old)
-
-  -- the arguments are read, and what that gave is run
-  pub record IsConsoleRun (words : List Text) (before after : R) (left : Option (List ℕ)) (old new : W) (result : Result ExitStatus LaunchFault) : Type 0 where
-    pub options : Result Options LaunchFault
-    pub reads : ReadsWords words options
-    pub runs : RunsOptions options before after left old new result
-
--- What is asked for is run with these reports, which are kept in files, and of a run that was not refused this list of the slowest tests is
--- made: what is printed, each report and the list tell the same times.
-pub record IsTimedRun (asked : Asked) (wanted : List Wanted) (before left old new : Option (List ℕ)) (was now : Option (List Deed)) (result : Result ExitStatus LaunchFault) (slowest : Option (List ℕ)) : Type 0 where
-  pub times : Times
-  pub filed : RunsFiled asked wanted times before left old new was now result
-  pub listed : IfOk result (λ status. IsSlowestRun asked times before left old new status slowest)
-
-module _ {R W K : Type 0} (remaining : R → Option (List ℕ)) (contents : W → Option (List ℕ)) (deeds : K → Option (List Deed)) where
-  -- what is refused before anything is run: nothing is written, no file is touched, and no list is made
-  abbrev pub IsUnrun : LaunchFault → (old new : W) → (was now : K) → Result ExitStatus LaunchFault → (slowest : Option (List ℕ)) → Type 0
-  IsUnrun fault old new was now result slowest = (result ≡ Err fault) × (new ≡ old) × (now ≡ was) × (slowest ≡ None)
-
-  -- These options are run of the suite that the reader holds; or, where a file is named, of that which it has, and the reader is not touched. A
-  -- file that cannot be read is refused.
-  abbrev pub FilesSuite : Options → (suite : Option Text) → List Wanted → (before after : R) → (left : Option (List ℕ)) → (old new : W) → (was now : K) → Result ExitStatus LaunchFault → (slowest : Option (List ℕ)) → Type 0
-  FilesSuite options None wanted before after left old new was now result slowest = IsTimedRun (asked_by options) wanted (remaining before) left (contents old) (contents new) (deeds was) (deeds now) result slowest
-  FilesSuite options (Some name) wanted before after left old new was now result slowest = (after ≡ before) × (
-      ((bytes : List ℕ) × IsTimedRun (asked_by options) wanted (Some bytes) left (contents old) (contents new) (deeds was) (deeds now) result slowest)
-      ⊎ (IsUnrun Reading old new was now result slowest ⊎ IsUnrun NoMemory old new was now result slowest))
-
-  -- what is done with what the arguments gave: of what is refused neither reader nor writer is touched
-  abbrev pub FilesOptions : Result Options LaunchFault → (suite : Option Text) → List Wanted → (before after : R) → (left : Option (List ℕ)) → (old new : W) → (was now : K) → Result ExitStatus LaunchFault → (slowest : Option (List ℕ)) → Type 0
-  FilesOptions (Ok options) suite wanted before after left old new was now result slowest = FilesSuite options suite wanted before after left old new was now result slowest
-  FilesOptions (Err fault) suite wanted before after left old new was now result slowest = (after ≡ before) × IsUnrun fault old new was now result slowest
-
-  -- the arguments are read, and what that gave is run, with the reports that they ask for; arguments that are refused ask for no help
-  pub record IsFiledConsoleRun (words : List Text) (before after : R) (left : Option (List ℕ)) (old new : W) (was now : K) (result : Result ExitStatus LaunchFault) (slowest : Option (List ℕ)) : Type 0 where
-    pub options : Result Options LaunchFault
-    pub reads : ReadsWords words options
-    pub unasked : options ≡ Err BadWords → AsksForNothing words
-    pub runs : FilesOptions options (suite_wanted words) (reports_wanted words) before after left old new was now result slowest
 
 -- the message that stands there after this answer: none where nothing was refused, and else one that begins with the refusal's sentence
 -- among these
@@ -109,11 +63,6 @@ abbrev pub waiting_said : (is_typed : Bool) → (suite : Option Text) → Option
 waiting_said true None = Some (codes "console: a suite is read from standard input; Ctrl-D ends it. --suite FILE reads one from a file, --help lists the options.\n")
 waiting_said true (Some name) = None
 waiting_said false suite = None
-
--- what is said before a suite is read with these options: nothing where they are refused
-abbrev pub waiting_for : (is_typed : Bool) → (suite : Option Text) → Result Options LaunchFault → Option (List ℕ)
-waiting_for is_typed suite (Ok options) = waiting_said is_typed suite
-waiting_for is_typed suite (Err fault) = None
 
 -- this is said of a run alone that was not refused
 abbrev pub SaysIfRun : {W : Type 0} → (ExitStatus → (old new : W) → Type 0) → Result ExitStatus LaunchFault → (old new : W) → Type 0
@@ -189,44 +138,15 @@ abbrev pub IsToldMeanwhile : (is_terminal : Bool) → (old new : Option (List �
 IsToldMeanwhile true old new = IsDrawnBehind old new
 IsToldMeanwhile false old new = AreNamedBehind old new
 
-module _ {W E : Type 0} (contents : W → Option (List ℕ)) (said : E → Option (List ℕ)) where
-  -- What is asked for is run of a suite of which this is left to read, with these reports. On the other writer stands first what is waited for, if
-  -- something is said of that; then what is told meanwhile, and behind that what is said of the answer, and the list of the slowest tests.
-  pub record IsSourceRun (is_terminal : Bool) (waited : Option (List ℕ)) (asked : Asked) (wanted : List Wanted) (before : Option (List ℕ)) (old new : W) (first last : E) (was now : Option (List Deed)) (ending : Ending) : Type 0 where
+module _ {B V W E : Type 0} (sentence : Sentences) (contents : W → Option (List ℕ)) (said : E → Option (List ℕ)) (Launches : Asked → Times → (before left old new : Option (List ℕ)) → Option (Report B) → Result ExitStatus LaunchFault → Type 0) (saw : PlanParts → V → V → List Telling → Type 0) (begun ended : V) where
+  -- What is asked for is launched with these reports. On the other writer stands what is told meanwhile, and behind that what is said of the
+  -- answer, and the list of the slowest tests.
+  pub record IsLaunchRun (is_terminal : Bool) (asked : Asked) (wanted : List Wanted) (before left : Option (List ℕ)) (old new : W) (first last : E) (was now : Option (List Deed)) (ending : Ending) : Type 0 where
     pub answer : Result ExitStatus LaunchFault
-    pub left : Option (List ℕ)
+    pub ran : Option (Report B)
     pub between : W
     pub slowest : Option (List ℕ)
-    pub waiting : E
     pub during : E
-    pub run : IsTimedRun asked wanted before left (contents old) (contents between) was now answer slowest
-    pub waits : SaysText said waited first waiting
-    pub tells : IsToldMeanwhile is_terminal (said waiting) (said during)
-    pub closed : ClosesRun sentence_of contents said answer slowest between new during last ending
-
-  module _ {K : Type 0} (deeds : K → Option (List Deed)) where
-    -- a file that has no suite to run: that is said, and no file is touched
-    abbrev pub LacksFile : LaunchFault → (old new : W) → (first last : E) → (was now : K) → Ending → Type 0
-    LacksFile fault old new first last was now ending = (now ≡ was) × Closes sentence_of contents said (Err fault) old new first last ending
-
-    -- what is asked for is run of the suite that a file has; or the file cannot be read
-    abbrev pub IsFileRun : (is_terminal : Bool) → Asked → List Wanted → (old new : W) → (first last : E) → (was now : K) → Ending → Type 0
-    IsFileRun is_terminal asked wanted old new first last was now ending =
-        ((bytes : List ℕ) × IsSourceRun is_terminal None asked wanted (Some bytes) old new first last (deeds was) (deeds now) ending)
-        ⊎ (LacksFile Reading old new first last was now ending ⊎ LacksFile NoMemory old new first last was now ending)
-
-module _ {R W E K : Type 0} (remaining : R → Option (List ℕ)) (contents : W → Option (List ℕ)) (said : E → Option (List ℕ)) (deeds : K → Option (List Deed)) where
-  -- the program, where standard error is a terminal that can be drawn on, or is none: what `run_console` does, with the reports that are
-  -- asked for, which leaves this to read and the writer like this; what is said on the other writer where a suite is to be typed, and what is
-  -- told there meanwhile; and behind that what is said of the answer, and the list of the slowest tests, if times are asked for
-  pub record IsMainRun (is_terminal is_typed : Bool) (words : List Text) (before after : R) (old new : W) (first last : E) (was now : K) (ending : Ending) : Type 0 where
-    pub answer : Result ExitStatus LaunchFault
-    pub left : Option (List ℕ)
-    pub between : W
-    pub slowest : Option (List ℕ)
-    pub waiting : E
-    pub during : E
-    pub run : IsFiledConsoleRun remaining contents deeds words before after left old between was now answer slowest
-    pub waits : SaysText said (waiting_for is_typed (suite_wanted words) run.options) first waiting
-    pub tells : IsToldMeanwhile is_terminal (said waiting) (said during)
-    pub closed : ClosesRun sentence_of contents said answer slowest between new during last ending
+    pub launch : IsTimedLaunch Launches saw begun ended asked wanted before left (contents old) (contents between) was now ran answer slowest
+    pub tells : IsToldMeanwhile is_terminal (said first) (said during)
+    pub closed : ClosesRun sentence contents said answer slowest between new during last ending

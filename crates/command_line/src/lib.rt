@@ -1,17 +1,18 @@
-//! The program over any reader and writers: what the arguments of its command line ask for is run, and what there is to
-//! say of it is said.
+//! A command line over any reader and writers: what its arguments ask for is launched, and what there is to say of it is
+//! said.
 #![tactic(auto)]
 
 mod closing;
+mod command;
+mod console;
 mod drawn_on;
 mod kept;
-mod program;
-mod slow_tests;
-mod terminal;
+mod meanwhile;
+mod own_tests;
 mod times;
 
-pub use closing::{Ending, close_run, close_unread, close_with_failures, refuse};
+pub use closing::{Ending, close_run, close_with_failures};
+pub use command::{run_main, run_words};
+pub use console::run_console;
 pub use drawn_on::is_drawn_on;
-pub use program::{run_console, run_main, run_words};
-pub use terminal::prints_lines;
-pub use times::{times_by, times_for};
+pub use meanwhile::launch_told;

@@ -3,6 +3,7 @@
 #![tactic(auto)]
 
 use command_line::{is_drawn_on, run_main};
+use launcher::{LaunchSource, ScriptedJob};
 use report_files::SystemFiles;
 use std::io::{self, IsTerminal};
 use std::process::ExitCode;
@@ -25,7 +26,9 @@ fn main(rt: HostRuntime) -> ExitCode {
         texts,
         &told.facts(),
         is_terminal,
+        LaunchSource::<ScriptedJob>::Text,
         reader,
+        &mut (),
         writer,
         errors,
         files,

@@ -1,7 +1,3 @@
+-- Lemmas on programs of tests.
 pub mod Answering
-pub mod Filed
-pub mod SeenBeside
-pub mod SeenJobs
 pub mod SystemRuns
-pub mod Told
-pub mod WordsRead

@@ -1,6 +1,4 @@
--- The definitions that contracts cite.
-pub mod FiledJobs
+-- What a program does that runs tests of its own.
 pub mod Jobs
-pub mod JobsRuns
 pub mod SystemRuns
 pub mod TestRuns

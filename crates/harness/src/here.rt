@@ -1,7 +1,7 @@
 //! The program of one who has tests of its own, on a system that is asked for all that it tells.
 
 ghost use Rattle.std.specs.Prelude.{◌≡◌, ◌⊎◌, IfOk, IfErr};
-ghost use Rattle.harness.specs.Jobs.{gives_left, jobs_by, replies_left};
+ghost use Rattle.harness.specs.Jobs.{gives_left, jobs_by, replies_left, says_kept};
 ghost use Rattle.harness.specs.SystemRuns.{IsRunHere};
 ghost use Rattle.ready_runs.specs.ReadyPrograms.{program_parts};
 ghost use Rattle.resource_locks.specs.Spares.{HasBareSpares};
@@ -38,7 +38,7 @@ pub fn run_tests_here<S: System, W: Write, E: Write + IsTerminal, V: Observer>(
     observer: &mut V,
 ) -> Result<Ending, BuildFault>
     // By some arguments, or for some reason by none: no clause can say what a system gives.
-    ensures run { IfOk result (λ ending. IsRunHere replies_left gives_left V.saw W.contents E.contents
+    ensures run { IfOk result (λ ending. IsRunHere replies_left gives_left says_kept V.saw W.contents E.contents
         (program_parts (held tests.value).tree (properties_of tests.value)) (jobs_by (held tests.value).jobs)
         observer.old observer.new writer.old writer.new errors.old errors.new ending) }
     ensures bare { IfOk result (λ _. HasBareSpares (held tests.value).tree) }

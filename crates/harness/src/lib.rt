@@ -2,13 +2,9 @@
 #![tactic(auto)]
 
 mod exit;
-mod filed_jobs;
 mod here;
 mod job;
-mod meanwhile;
 mod run;
-mod shown_jobs;
-mod test_program;
 
 pub use command_line::{Ending, is_drawn_on};
 pub use descriptor::{LockMode, Mode, NodeId};

@@ -3,22 +3,19 @@
 ghost use Rattle.std.specs.Prelude.{◌≡◌, ◌⊎◌, IfOk, IfErr, Err, map, string_bytes};
 ghost use Rattle.std.specs.IoError.{error_kind};
 ghost use Rattle.std.specs.Vec.Iter.{into_iter_items};
-ghost use Rattle.harness.specs.Jobs.{gives_left, jobs_by, replies_left};
+ghost use Rattle.harness.specs.Jobs.{gives_left, jobs_by, replies_left, says_kept};
 ghost use Rattle.resource_locks.specs.Spares.{HasBareSpares};
 ghost use Rattle.launch_options.specs.declared.fault.LaunchFault.{LaunchFault};
 ghost use Rattle.ready_runs.specs.ReadyPrograms.{program_parts};
-ghost use Rattle.messages.specs.Sentences.{tests_sentence_of};
-ghost use Rattle.command_line.specs.Runs.{Closes};
 ghost use Rattle.command_words.specs.GivenWords.{IsGivenFault};
-ghost use Rattle.harness.specs.TestRuns.{IsTestMainRun};
+ghost use Rattle.harness.specs.TestRuns.{IsTestsMain, IsUngiven};
 ghost use Rattle.test_tree.specs.Building.{held, properties_of};
 ghost use Rattle.test_tree.specs.Growing.{IsPending};
 ghost use Rattle.test_tree.specs.declared.cause.BuildCause.TheVariants.{NoMemory};
 
 use crate::job::jobs_of;
-use crate::test_program::run_test_main;
-use command_line::Ending;
-use launcher::Program;
+use command_line::{Ending, run_main};
+use launcher::{LaunchSource, Program};
 use listeners::Observer;
 use report_files::ReportFiles;
 use std::alloc::Global;
@@ -62,14 +59,15 @@ pub fn run_tests<
     files: &mut K,
     observer: &mut V,
 ) -> Result<Ending, BuildFault>
-    ensures run { IfOk result (λ ending. IfOk words (λ given. IsTestMainRun
-        replies_left gives_left V.saw W.contents E.contents
-        (program_parts (held tests.value).tree (properties_of tests.value)) (jobs_by (held tests.value).jobs)
-        observer.old observer.new K.deeds is_terminal facts.now (map string_bytes (into_iter_items given)) writer.old
-        writer.new errors.old errors.new files.old files.new ending)) }
+    ensures run { IfOk result (λ ending. IfOk words (λ given. IsTestsMain replies_left gives_left says_kept V.saw W.contents
+        E.contents K.deeds (program_parts (held tests.value).tree (properties_of tests.value))
+        (jobs_by (held tests.value).jobs) observer.old observer.new is_terminal facts.now
+        (map string_bytes (into_iter_items given)) writer.old writer.new errors.old errors.new files.old files.new
+        ending)) }
     ensures refused { IfOk result (λ ending. IfErr words (λ error. (fault : LaunchFault)
-        × IsGivenFault (error_kind error) fault × (observer.new ≡ observer.old) × (files.new ≡ files.old) × Closes
-        tests_sentence_of W.contents E.contents (Err fault) writer.old writer.new errors.old errors.new ending)) }
+        × IsGivenFault (error_kind error) fault × IsUngiven replies_left gives_left says_kept V.saw W.contents E.contents
+        K.deeds (program_parts (held tests.value).tree (properties_of tests.value)) (jobs_by (held tests.value).jobs)
+        observer.old observer.new fault writer.old writer.new errors.old errors.new files.old files.new ending)) }
     // No dynamic test holds a key, so a run never gets stuck.
     ensures bare { IfOk result (λ _. HasBareSpares (held tests.value).tree) }
     ensures unbuilt { IfErr result (λ fault. (IsPending (held tests.value) fault.cause ⊎ (fault.cause ≡ NoMemory))
@@ -84,7 +82,9 @@ pub fn run_tests<
         jobs,
         slow,
     };
-    Ok(run_test_main(
+    // nothing is read
+    let mut nothing: &[u8] = &[];
+    Ok(run_main(
         rt,
         clock,
         alloc,
@@ -92,10 +92,11 @@ pub fn run_tests<
         texts,
         facts,
         is_terminal,
-        program,
+        LaunchSource::Program(program),
+        &mut nothing,
+        observer,
         writer,
         errors,
         files,
-        observer,
     ))
 }

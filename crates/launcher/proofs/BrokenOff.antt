@@ -2,8 +2,6 @@
 use Rattle.std.proofs.Common.{◌≡◌, ◌≢◌, ◌∙◌, ℕ, zero, suc, ◌<◌, Bool, true, false, List, [], length, take, Option, Some, None, Result, Ok, Err, refl, sym, ap, subst, append-nil, inl, inr, arith}
 use Rattle.std.specs.Io.KnownBytes.{Appends, Keeps}
 use Rattle.std.proofs.lemmas.Bool.{true≢false}
-use Rattle.std.specs.Result.{IsErrAnd}
-use Rattle.run_results.specs.declared.to_writer.WriteFault.{WriteFault}
 use Rattle.live.specs.declared.live_feed.Outlet.{Outlet}
 use Rattle.live.specs.declared.live_feed.Outlet.TheVariants.{Waiting, Open, Closed, Failed}
 use Rattle.launch_options.specs.Asked.{Asked}
@@ -12,34 +10,15 @@ use Rattle.launch_options.specs.declared.fault.CutOutput.{CutOutput}
 use Rattle.launch_options.specs.declared.fault.LaunchFault.{LaunchFault}
 use Rattle.launch_options.specs.declared.fault.LaunchFault.TheVariants.{Writing}
 use Rattle.run_outputs.specs.declared.exit_status.ExitStatus.{ExitStatus}
-use Rattle.launcher.specs.Runs.{is_writing}
-use Rattle.launcher.specs.Watched.{IsAllOf, IsAnswered, IsBrokenOff, IsRefusedBy, LacksBy, LacksMeans, cut_in}
-
--- who lacks means has nothing to tell of an output
-uncut : (fault : LaunchFault) → LacksMeans fault → cut_in fault ≡ None
-uncut fault why = elim why [ inl is ↦ ap cut_in is | inr is ↦ ap cut_in is ]
-
-pub uncut_by : (b : Bool) (fault : LaunchFault) → LacksBy b fault → cut_in fault ≡ None
-uncut_by true fault why = uncut fault why
-uncut_by false fault is = ap cut_in is
+use Rattle.launcher.specs.Faults.{is_writing}
+use Rattle.launcher.specs.Watched.{IsAnswered, IsBrokenOff, IsRefusedBy, cut_in}
 
 module _ (asked : Asked) (Output : List ℕ → ExitStatus → Type 0) (Fails : LaunchFault → Type 0) (old new : Option (List ℕ)) where
   abbrev Answered : Result ExitStatus LaunchFault → Type 0
   Answered = IsAnswered asked Output Fails old new
 
-  -- the writer took a part of what was left
-  pub cut_short : (text : List ℕ) (status : ExitStatus) (fault : WriteFault) (result : Result ExitStatus LaunchFault) → IsErrAnd result (λ e. e ≡ Writing (cut_by_writer fault.sent)) → Output text status
-      → (fault.sent < length text) × Appends old new (take fault.sent text) → Answered result
-  cut_short text status fault (Ok done) is output sent = absurd is
-  cut_short text status fault (Err e) is output sent =
-      subst (λ (f : LaunchFault). Answered (Err f)) (sym is) (record { text = text; status = status; output = output; short = sent.0; written = sent.1 }, tt)
-
-  -- the writer took all
-  pub whole : (text : List ℕ) (status : ExitStatus) → Output text status → Appends old new text → IsAllOf Output old new status
-  whole text status output sent = record { text = text; output = output; written = sent }
-
   -- a refusal that is not about an output
-  pub refused : (fault : LaunchFault) → cut_in fault ≡ None → Fails fault → Answered (Err fault)
+  refused : (fault : LaunchFault) → cut_in fault ≡ None → Fails fault → Answered (Err fault)
   refused fault none fails = subst (λ (o : Option CutOutput). IsRefusedBy asked Output Fails o fault old new) (sym none) fails
 
   module _ (fault result : LaunchFault) (none : cut_in fault ≡ None) (fails : Fails fault) where

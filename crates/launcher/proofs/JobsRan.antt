@@ -11,9 +11,7 @@ use Rattle.resource_locks.specs.Hoisted.{IsGuarded}
 use Rattle.resource_locks.specs.Plans.{PlanParts}
 use Rattle.event_history.specs.History.{IsLegal}
 use Rattle.event_history.proofs.Apart.{apart}
-use Rattle.job_times.specs.Timings.{Times, times_asked}
-use Rattle.listeners.specs.Listeners.{Telling, tellings_of}
-use Rattle.run_results.specs.Results.{tests_found, has_failed}
+use Rattle.job_times.specs.Timings.{Times}
 use Rattle.junit_report.specs.Expectations.{IsPrintedAsExpected}
 use Rattle.junit_report.proofs.PrintedAsExpected.{printed_as_expected}
 use Rattle.scheduling.proofs.OnlyHistory.{only_history, as_expected}
@@ -23,18 +21,13 @@ use Rattle.table_rule.specs.Reached.{Agrees}
 use Rattle.table_rule.proofs.MoreReplies.{wide_legal, wide_text}
 use Rattle.worker_pool.specs.Reports.{run_of, AreTexts, IsReport, IsToldAsSaid}
 use Rattle.schedules.proofs.Agreeing.{agreeing}
-use Rattle.listeners.specs.Observing.{HasSeenMore}
 use Rattle.launch_options.specs.Asked.{Asked}
 use Rattle.run_outputs.specs.declared.exit_status.ExitStatus.{ExitStatus}
-use Rattle.run_outputs.specs.ExitStatuses.{status_of_run}
-use Rattle.launcher.specs.Programs.{one_each, HasRun, IsHistoryBy, IsPrintedJobs, IsPrintedOf}
+use Rattle.launcher.specs.Programs.{one_each, HasRun, IsHistoryBy, IsPrintedOf}
 use Rattle.run_outputs.specs.ScheduleLines.{IsBehindRun}
 use Rattle.launch_options.specs.declared.details.Details.{Details}
-use Rattle.run_outputs.specs.Outputs.{details_of}
 use Rattle.run_outputs.specs.ScheduleTexts.{schedule_line}
-use Rattle.run_outputs.specs.WarningTexts.{head_of}
-use Rattle.launcher.specs.Watched.{HasSeenPrinted, SomeOutput}
-use Rattle.launcher.proofs.Reporting.{expected_output, schedule_behind}
+use Rattle.launcher.proofs.Reporting.{schedule_behind}
 
 module _ {B : Type 0} (answers : B → List Reply) (gives : B → Reply → Type 0) (says : B → Outcome → Type 0) (workers ring : ℕ) (p : PlanParts) (tree : IsTree p.tree) (safe : IsGuarded (declared_of p.tree) p) (jobs : List (ℕ × B)) (history : List Event) (texts : TextParts) (report : IsReport (run_of p workers ring jobs) (replies_of answers (run_of p workers ring jobs)) history)
     (may_say : AreTexts p (replies_of answers (run_of p workers ring jobs)) history texts) (used : List (ℕ × B))
@@ -102,37 +95,8 @@ module _ {B : Type 0} (answers : B → List Reply) (gives : B → Reply → Type
 pub moved_print : {p q : PlanParts} {t u : Times} {known : Option (List (ℕ × Reply))} {asked : Asked} {settings : Settings} {history : List Event} {texts : TextParts} {text : List ℕ} {status : ExitStatus} → p ≡ q → t ≡ u → IsPrintedOf known asked settings p history texts t text status → IsPrintedOf known asked settings q history texts u text status
 moved_print {p} {q} {t} {u} {known} {asked} {settings} {history} {texts} {text} {status} same also is = subst (λ (r : PlanParts). IsPrintedOf known asked settings r history texts u text status) same (subst (λ (v : Times). IsPrintedOf known asked settings p history texts v text status) also is)
 
--- what is printed of a run is as expected, unless the plan fails fast
-pub printed_jobs : {B : Type 0} (answers : B → List Reply) (gives : B → Reply → Type 0) (known : Option (List (ℕ × Reply))) (asked : Asked) (settings : Settings) (p : PlanParts) (jobs : List (ℕ × B)) (history : List Event) (texts : TextParts) (left : List (ℕ × B))
-    → HasRun answers gives settings.workers asked.ring p jobs history texts left → (times : Times) (text : List ℕ) (status : ExitStatus) → IsPrintedOf known asked settings p history texts times text status → IsPrintedJobs answers gives known asked settings p jobs history texts times text status
-printed_jobs answers gives known asked settings p jobs history texts left ran times text status prints = record {
-  left = left;
-  ran = ran;
-  prints = prints;
-  as_expected = λ calm. expected_output asked settings p ran.reply history texts (ran.as_expected calm) times prints.behind text status prints.printed prints.exits;
-}
-
 -- where there is no memory for a schedule, the line that says so would have been printed
 pub some_line : (known : Option (List (ℕ × Reply))) (kind : Details) (asks : Bool) (workers : ℕ) (p : PlanParts) (history : List Event) (texts : TextParts) → (behind : List ℕ) × IsBehindRun kind asks workers p known history texts behind
 some_line (Some replies) kind asks workers p history texts = schedule_behind kind asks workers p replies history
 some_line None kind false workers p history texts = ([], refl)
 some_line None kind true workers p history texts = (schedule_line kind None, record { told = []; line = record { found = None; schedule = tt; namable = tt; printed = refl }; explains = tt })
-
--- whoever watches has seen a run of which no report was made
-pub jobs_in_vain : {B : Type 0} (answers : B → List Reply) (gives : B → Reply → Type 0) (known : Option (List (ℕ × Reply))) (asked : Asked) (settings : Settings) (p : PlanParts) (jobs : List (ℕ × B)) (history : List Event) (texts : TextParts) (left : List (ℕ × B))
-    → HasRun answers gives settings.workers asked.ring p jobs history texts left → {L : Type 0} (saw : PlanParts → L → L → List Telling → Type 0) (first now : L) (times : Times) → HasSeenMore saw p (tellings_of texts history) first now
-    → SomeOutput (HasSeenPrinted saw (IsPrintedJobs answers gives known asked settings p jobs) p first now times)
-jobs_in_vain answers gives known asked settings p jobs history texts left ran saw first now times seen =
-    let some_behind = some_line known asked.details asked.schedule settings.workers p history texts in
-    let text = head_of asked.details settings.warnings ++ (details_of asked.details asked.theme p texts (times_asked asked.times times) history ++ some_behind.0) in
-    let status = status_of_run asked.fail_if_no_tests (tests_found p history) (has_failed p history) in
-    record {
-      text = text;
-      status = status;
-      output = record {
-        history = history;
-        texts = texts;
-        prints = printed_jobs answers gives known asked settings p jobs history texts left ran times text status (record { behind = some_behind.0; is_behind = some_behind.1; printed = refl; exits = refl });
-        seen = seen;
-      };
-    }

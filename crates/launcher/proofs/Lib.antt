@@ -1,23 +1,14 @@
+-- Lemmas on launches.
 pub mod BrokenOff
 pub mod Driving
-pub mod FiledAnswers
 pub mod JobsRan
-pub mod Judging
 pub mod LaunchFiling
-pub mod Launching
-pub mod OneFiling
-pub mod OneHistory
 pub mod PlannedLaunches
-pub mod ProgramRuns
-pub mod ProgramShown
-pub mod ReadyRuns
 pub mod Renamed
 pub mod Replaying
 pub mod Reporting
 pub mod Scripting
 pub mod Selected
 pub mod Showing
-pub mod ShownRuns
-pub mod SlowestRuns
 pub mod SuiteRan
-pub mod Watched
+pub mod SuiteReading

@@ -1,5 +1,5 @@
 -- What a run prints, from what each of its parts says.
-use Rattle.std.proofs.Common.{◌≡◌, ◌∙◌, ◌<◌, ◌≤◌, ℕ, Bool, true, false, arith, List, [], ◌++◌, Some, None, Result, Ok, Err, refl, ap, ap₂, subst, inl, inr}
+use Rattle.std.proofs.Common.{◌≡◌, ◌∙◌, ◌<◌, ◌≤◌, ℕ, Bool, true, false, arith, List, [], ◌++◌, Option, Some, None, Result, Ok, Err, refl, ap, ap₂, subst, inl, inr}
 use Rattle.std.specs.Prelude.{◌⊎◌}
 use Rattle.std.proofs.lemmas.Option.{none-some, same_Some}
 use Rattle.config_params.specs.declared.settings.Settings.{Settings}
@@ -36,17 +36,14 @@ use Rattle.launch_options.specs.Asked.{Asked}
 use Rattle.run_outputs.specs.ExitStatuses.{status_of_run}
 use Rattle.run_outputs.specs.Outputs.{details_of, expected_details, IsExpectedOutput}
 use Rattle.run_outputs.specs.ScheduleLines.{IsBehindDetails}
+use Rattle.launch_options.specs.declared.fault.LaunchFault.{LaunchFault}
+use Rattle.launcher.specs.Launches.{IsPrintedTo, LacksAll}
+use Rattle.launcher.specs.Programs.{IsPrintedOf}
 use Rattle.launcher.specs.Reports.{IsHistory, IsPrintedRun}
 use Rattle.ready_runs.specs.Scripted.{replies_left, AreScripted}
 use Rattle.run_outputs.specs.WarningTexts.{head_of}
 use Rattle.run_outputs.specs.ScheduleTexts.{schedule_line}
-use Rattle.launcher.specs.Watched.{HasSeenPrinted, SomeOutput, Watches}
-use Rattle.launch_options.specs.declared.fault.LaunchFault.{LaunchFault}
-use Rattle.launch_options.specs.declared.fault.LaunchFault.TheVariants as launches
-use Rattle.run_outputs.specs.declared.output.Output.{Output}
-use Rattle.listeners.specs.Listeners.{Telling, tellings_of}
-use Rattle.listeners.specs.Observing.{HasSeenMore}
-use Rattle.std.specs.Result.{IsErrAnd}
+use Rattle.launcher.proofs.BrokenOff.{answered_as}
 use Rattle.launcher.proofs.Scripting.{legal_as_said, text_as_said}
 
 -- what the threads report of the suite's jobs is a history of what the suite says
@@ -146,22 +143,12 @@ pub schedule_behind : (kind : Details) (asked : Bool) (workers : ℕ) (p : PlanP
 schedule_behind kind false workers p answers history = ([], refl)
 schedule_behind kind true workers p answers history = (schedule_line kind None, record { found = None; schedule = tt; namable = tt; printed = refl })
 
--- whoever watches has seen a run of which no report was made
-module _ {L : Type 0} (saw : PlanParts → L → L → List Telling → Type 0) (first now : L) (times : Times) where
-  pub watches_in_vain : (Prints : List Event → TextParts → Times → List ℕ → ExitStatus → Type 0) (p : PlanParts) (result : Result Output LaunchFault) → IsErrAnd result (λ e. e ≡ launches.NoMemory) → SomeOutput (HasSeenPrinted saw Prints p first now times)
-      → Watches saw Prints p first now times result
-  watches_in_vain Prints p (Ok report) same vain = absurd same
-  watches_in_vain Prints p (Err e) same vain = inr (same, vain)
+-- what is printed of the parts of a run is what is printed of a run of what the suite says
+pub printed_as : (asked : Asked) (settings : Settings) (p : PlanParts) (answers : List (ℕ × Reply)) (history : List Event) (texts : TextParts) (times : Times) → IsTold settings.workers p answers history texts → (text : List ℕ) (status : ExitStatus) → IsPrintedOf (Some answers) asked settings p history texts times text status
+    → IsPrintedRun asked settings p answers history texts times text status
+printed_as asked settings p answers history texts times told text status out = printed_run out.behind text status asked settings p answers history texts told times out.is_behind out.printed out.exits
 
-  -- which would have been this one
-  pub run_in_vain : (asked : Asked) (settings : Settings) (p : PlanParts) (answers : List (ℕ × Reply)) (history : List Event) (texts : TextParts) → IsTold settings.workers p answers history texts → HasSeenMore saw p (tellings_of texts history) first now
-      → SomeOutput (HasSeenPrinted saw (IsPrintedRun asked settings p answers) p first now times)
-  run_in_vain asked settings p answers history texts told seen =
-      let behind = schedule_behind asked.details asked.schedule settings.workers p answers history in
-      let text = head_of asked.details settings.warnings ++ (details_of asked.details asked.theme p texts (times_asked asked.times times) history ++ behind.0) in
-      let status = status_of_run asked.fail_if_no_tests (tests_found p history) (has_failed p history) in
-      record {
-        text = text;
-        status = status;
-        output = record { history = history; texts = texts; prints = printed_run behind.0 text status asked settings p answers history texts told times behind.1 refl refl; seen = seen };
-      }
+pub printed_to : (asked : Asked) (settings : Settings) (p : PlanParts) (answers : List (ℕ × Reply)) (history : List Event) (texts : TextParts) (times : Times) → IsTold settings.workers p answers history texts → (old new : Option (List ℕ)) (answer : Result ExitStatus LaunchFault)
+    → IsPrintedTo asked (IsPrintedOf (Some answers) asked settings p history texts times) old new answer → IsPrintedTo asked (IsPrintedRun asked settings p answers history texts times) old new answer
+printed_to asked settings p answers history texts times told old new answer is =
+    answered_as asked (IsPrintedOf (Some answers) asked settings p history texts times) (IsPrintedRun asked settings p answers history texts times) (LacksAll old new) (LacksAll old new) (printed_as asked settings p answers history texts times told) (λ fault lacks. lacks) old new answer is

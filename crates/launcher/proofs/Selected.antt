@@ -1,5 +1,5 @@
 -- Where each body of a tree has a job, each of what a request selects of it has one.
-use Rattle.std.proofs.Common.{◌≡◌, ℕ, ◌-◌, ◌<◌, cond, Bool, true, false, List, Option, Some, None, sym, ap, ◌∙◌, inl, inr}
+use Rattle.std.proofs.Common.{◌≡◌, ℕ, ◌-◌, ◌<◌, cond, Bool, true, false, List, [], Option, Some, None, sym, ap, subst, ◌∙◌, inl, inr}
 use Rattle.std.proofs.lemmas.Bool.{false≢true}
 use Rattle.std.specs.Option.{is_some}
 use Rattle.descriptor.specs.Nodes.{Nodes, IsTree, size, node_at, body_or, after_or, body_of, after_of}
@@ -14,6 +14,10 @@ use Rattle.selectors.specs.Selections.{is_selected, selection, dealt, answer}
 use Rattle.selectors.specs.Shards.{Part, is_unit_of, shard_or_all}
 use Rattle.tree_orders.specs.Orders.{seeded_or_same}
 use Rattle.tree_orders.proofs.SeededTree.{node_from, seeded_told}
+use Rattle.config_params.specs.declared.settings.Settings.{Settings}
+use Rattle.suite_text.specs.Reading.Parts.{SuiteParts}
+use Rattle.launch_options.specs.Asked.{Asked}
+use Rattle.ready_runs.specs.Ready.{IsReady}
 use Rattle.ready_runs.proofs.Selected.{dealt_tree, found, kept, staying}
 
 -- the tree of the nodes that stay where some are selected
@@ -51,3 +55,9 @@ all_jobs p jobs has number missing = false≢true (sym (ap is_some missing.none)
     there : (b : Bool) → cond b (body_of p.tree missing.slot) (after_of p.tree (missing.slot - size p.tree)) ≡ Some number → is_some (job_with jobs number) ≡ true
     there true is = has missing.slot number (inl is)
     there false is = has (missing.slot - size p.tree) number (inr is)
+
+-- and none is where the plan is that of what the request selects
+pub no_job_missing : {B : Type 0} (asked : Asked) (parts : SuiteParts) (settings : Settings) (p : PlanParts) (jobs : List (ℕ × B)) → IsTree parts.tree → IsReady asked parts settings p [] → HasJobs parts.tree jobs → HasAllJobs p jobs
+no_job_missing asked parts settings p jobs tree ready has =
+    let same : p.tree ≡ answer parts.tree asked.request = ap (λ (q : PlanParts). q.tree) ready.plan_is in
+    all_jobs p jobs (subst (λ (t : Nodes). HasJobs t jobs) (sym same) (selected_jobs parts.tree tree asked.request jobs has))

@@ -1,8 +1,7 @@
--- What is printed of a run while it goes on is a front of its output.
-use Rattle.std.proofs.Common.{◌≡◌, ◌≢◌, ◌∙◌, ℕ, ◌<◌, Bool, true, false, List, [], ◌++◌, length, take, Option, Some, None, Result, Ok, Err, IfOk, IfErr, refl, sym, ap, ap₂, subst, append-nil, inl, inr, arith}
-use Rattle.std.specs.Prelude.{◌⊎◌, if◌then◌else◌, string_bytes}
-use Rattle.std.specs.Io.KnownBytes.{Appends}
-use Rattle.std.specs.Result.{IsErrAnd}
+-- What a feed has printed of the run that it was shown is a front of what is printed of it.
+use Rattle.std.proofs.Common.{◌≡◌, ◌≢◌, ◌∙◌, ℕ, ◌<◌, Bool, true, false, List, [], ◌++◌, length, take, Option, Some, None, Result, Err, refl, sym, ap, ap₂, subst, append-nil, inl, inr, arith}
+use Rattle.std.specs.Prelude.{◌⊎◌, if◌then◌else◌}
+use Rattle.std.specs.Io.KnownBytes.{Appends, Keeps}
 use Rattle.std.proofs.KnownBytes.{Appends-nil}
 use Rattle.std.proofs.lemmas.Bool.{true≢false}
 use Rattle.std.proofs.lemmas.List.Elements.{All-nil}
@@ -15,38 +14,36 @@ use Rattle.event_history.specs.Parts.{EndsInPlan}
 use Rattle.scheduling.specs.declared.step.Step.{Step}
 use Rattle.job_times.specs.Timings.{Times, times_asked, times_of}
 use Rattle.listeners.specs.Listeners.{Telling, tellings_of}
+use Rattle.listeners.specs.Observing.{HasSeenMore}
+use Rattle.run_results.specs.Results.{tests_found, has_failed}
 use Rattle.run_results.specs.declared.theme.Theme.{Theme}
-use Rattle.run_results.specs.declared.to_writer.WriteFault.{WriteFault}
 use Rattle.live.specs.LiveFeeds.{lines_of, output_of, shown_times, IsNotedIn, IsSoFar, IsPrinted, IsFront, is_stopped}
 use Rattle.live.specs.declared.line_form.LineForm.{LineForm}
 use Rattle.live.specs.declared.live_feed.LiveFeed.{LiveFeed}
 use Rattle.live.specs.declared.live_feed.Outlet.{Outlet}
 use Rattle.live.specs.declared.live_feed.Outlet.TheVariants.{Waiting, Open, Closed, Failed}
-use Rattle.live.proofs.Fronts.{IsShort, front, front_short}
-use Rattle.suite_text.specs.Reading.Parts.{SuiteParts}
+use Rattle.live.proofs.Fronts.{IsShort, front as feed_front, front_short}
 use Rattle.launch_options.specs.Asked.{Asked}
 use Rattle.launch_options.specs.DetailsTexts.{prints_live}
 use Rattle.launch_options.specs.Faults.{cut_by_memory, cut_by_writer}
 use Rattle.launch_options.specs.declared.details.Details.{Details}
 use Rattle.launch_options.specs.declared.details.Details.TheVariants as details
+use Rattle.launch_options.specs.declared.fault.CutOutput.{CutOutput}
 use Rattle.launch_options.specs.declared.fault.LaunchFault.{LaunchFault}
-use Rattle.launch_options.specs.declared.fault.LaunchFault.TheVariants.{NoMemory, Suite as OfSuite, BadWords, BadStep, BadReport, CutReport, UnreadRun, BadSavedLine, UnreadWords, BadSelector, BadTags, BadPair, BadSettings, NothingMatches, TooManyKeys, TooManyWorkers, NoWorker, Reading, Writing}
-use Rattle.run_outputs.specs.declared.exit_status.ExitStatus.{ExitStatus}
-use Rattle.run_outputs.specs.declared.output.Output.{Output}
-use Rattle.run_outputs.specs.declared.watched_feed.WatchedFeed.{WatchedFeed}
+use Rattle.launch_options.specs.declared.fault.LaunchFault.TheVariants.{NoMemory, Writing}
 use Rattle.run_outputs.specs.Beside.{SeesBeside}
+use Rattle.run_outputs.specs.ExitStatuses.{status_of_run}
 use Rattle.run_outputs.specs.Outputs.{details_of}
-use Rattle.launcher.specs.Reports.{HasHistory, IsOutput, IsOutputWith, IsPlanOutput, IsPrintedRun, IsRunOutput}
-use Rattle.run_outputs.specs.Missing.{IsJudged, answer_unless, is_missing}
-use Rattle.ready_runs.specs.Ready.{FailsSuite, IsReady, TakesMemory}
-use Rattle.launcher.specs.Runs.{IsSeenOutput, IsSeenReadyRun, IsSeenSuiteOutput, IsSeenSuiteRun, IsSuiteOutput, IsSuiteOutputBy, IsSuiteRun, IsUnrun}
+use Rattle.run_outputs.specs.ScheduleLines.{IsBehindRun}
 use Rattle.run_outputs.specs.WarningTexts.{head_of}
-use Rattle.launcher.specs.Watched.{HasLiveFeed, HasSeenPrinted, IsAllOf, IsBrokenOff, SeesRefusal, SeesTextBy, SomeOutput, WatchesBy, IsAnswered, cut_in, form_by, outlet_by}
-use Rattle.run_outputs.specs.Outputs.{is_run}
-use Rattle.launcher.proofs.BrokenOff.{answered_as, broken as broken_run, cut_short, refused, uncut_by, whole as whole_of}
-use Rattle.launcher.proofs.Judging.{judged}
-use Rattle.launcher.proofs.ReadyRuns.{ready_output, ready_unrun}
-use Rattle.ready_runs.proofs.Planning.{ready_takes}
+use Rattle.run_outputs.specs.declared.exit_status.ExitStatus.{ExitStatus}
+use Rattle.run_outputs.specs.declared.watched_feed.WatchedFeed.{WatchedFeed}
+use Rattle.launcher.specs.Faults.{is_writing}
+use Rattle.launcher.specs.Launches.{Fits, IsPrintedTo, IsSentSo, LacksAll}
+use Rattle.launcher.specs.Programs.{IsPrintedOf}
+use Rattle.launcher.specs.Watched.{HasLiveFeed, IsBrokenOff, IsRefusedBy, cut_in, form_by, outlet_by}
+use Rattle.launcher.proofs.BrokenOff.{broken, quiet}
+use Rattle.launcher.proofs.JobsRan.{some_line}
 
 -- lines are printed from the first only if they are asked for, and no replay
 lines_asked : (kind : Details) (replay : Option (List Step)) (drive : Option ℕ) → outlet_by kind replay drive ≡ Waiting → (prints_live kind ≡ true) × (replay ≡ None) × (drive ≡ None)
@@ -79,17 +76,6 @@ lines_printed details.Xml theme p texts times h is = absurd (true≢false (sym i
 lines_printed details.List theme p texts times h is = absurd (true≢false (sym is))
 lines_printed details.Plan theme p texts times h is = absurd (true≢false (sym is))
 
--- and then the plan is run
-pub lines_run : (kind : Details) → prints_live kind ≡ true → is_run None kind ≡ true
-lines_run details.None is = refl
-lines_run details.Summary is = refl
-lines_run details.Tree is = refl
-lines_run details.Testfeed is = refl
-lines_run details.Json is = refl
-lines_run details.Xml is = refl
-lines_run details.List is = absurd (true≢false (sym is))
-lines_run details.Plan is = absurd (true≢false (sym is))
-
 -- nothing was handed to the writer
 record IsUnsent {W S : Type 0} (contents : W → Option (List ℕ)) (first now : LiveFeed W S) : Type 0 where
   same : now.writer.ghost_name ≡ first.writer.ghost_name
@@ -104,30 +90,21 @@ not_failed Closed is failed = cc
 not_failed Failed is failed = elim is [ inl q ↦ cc | inr q ↦ cc ]
 
 -- at first nothing was printed
-at_first : (o : Outlet) → (o ≡ Waiting) ⊎ (o ≡ Closed) → (sent : ℕ) → sent ≡ 0 → (output : List ℕ) → IsSoFar o sent output []
-at_first Waiting is sent none output = (none, refl)
-at_first Open is sent none output = elim is [ inl q ↦ cc | inr q ↦ cc ]
-at_first Closed is sent none output = inl none
-at_first Failed is sent none output = elim is [ inl q ↦ cc | inr q ↦ cc ]
+at_first_none : (o : Outlet) → (o ≡ Waiting) ⊎ (o ≡ Closed) → (sent : ℕ) → sent ≡ 0 → (output : List ℕ) → IsSoFar o sent output []
+at_first_none Waiting is sent none output = (none, refl)
+at_first_none Open is sent none output = elim is [ inl q ↦ cc | inr q ↦ cc ]
+at_first_none Closed is sent none output = inl none
+at_first_none Failed is sent none output = elim is [ inl q ↦ cc | inr q ↦ cc ]
 
--- what is printed of a history is its details behind the warnings, with these times if they are asked for, and something may stand behind
-pub record IsTextOf (asked : Asked) (settings : Settings) (p : PlanParts) (history : List Event) (texts : TextParts) (times : Times) (text : List ℕ) : Type 0 where
-  pub ends : EndsInPlan history
-  pub behind : List ℕ
-  pub printed : text ≡ head_of asked.details settings.warnings ++ (details_of asked.details asked.theme p texts (times_asked asked.times times) history ++ behind)
-
-module _ {W V S : Type 0} (contents : W → Option (List ℕ)) (saw : PlanParts → V → V → List Telling → Type 0) (asked : Asked) (settings : Settings) (p : PlanParts) (Prints : List Event → TextParts → Times → List ℕ → ExitStatus → Type 0) (Printed : List ℕ → ExitStatus → Type 0)
-    (runs : Bool) (as_output : runs ≡ true → (text : List ℕ) (status : ExitStatus) → HasHistory Prints text status → Printed text status)
-    (as_text : (history : List Event) (texts : TextParts) (times : Times) (text : List ℕ) (status : ExitStatus) → Prints history texts times text status → IsTextOf asked settings p history texts times text)
-    (live : HasLiveFeed asked → runs ≡ true) (at_first_both both : WatchedFeed W V S)
-    (head : at_first_both.feed.head.now ≡ head_of asked.details settings.warnings) (form : at_first_both.feed.form ≡ form_by asked.details) (outlet : at_first_both.feed.outlet ≡ outlet_by asked.details asked.replay asked.drive) (timed : at_first_both.feed.timed ≡ asked.times) (none : at_first_both.feed.sent ≡ 0) where
+module _ {W V S : Type 0} (contents : W → Option (List ℕ)) (saw : PlanParts → V → V → List Telling → Type 0) (known : Option (List (ℕ × Reply))) (asked : Asked) (settings : Settings) (p : PlanParts) (history : List Event) (texts : TextParts) (ends : EndsInPlan history) (at_first both : WatchedFeed W V S)
+    (head : at_first.feed.head.now ≡ head_of asked.details settings.warnings) (form : at_first.feed.form ≡ form_by asked.details) (outlet : at_first.feed.outlet ≡ outlet_by asked.details asked.replay asked.drive) (timed : at_first.feed.timed ≡ asked.times) (none : at_first.feed.sent ≡ 0)
+    (seen : HasSeenMore (SeesBeside contents saw) p (tellings_of texts history) at_first both) where
   abbrev first : LiveFeed W S
-  first = at_first_both.feed
+  first = at_first.feed
 
   abbrev now : LiveFeed W S
   now = both.feed
 
-  -- what is noted in the end
   abbrev noted : Times
   noted = times_of now.timings.now
 
@@ -137,27 +114,11 @@ module _ {W V S : Type 0} (contents : W → Option (List ℕ)) (saw : PlanParts 
   abbrev is_now : Option (List ℕ)
   is_now = contents now.writer.now
 
-  -- what the feed and who watches beside it have seen together, and what the latter has seen
-  abbrev BothSee : List ℕ → ExitStatus → Type 0
-  BothSee = HasSeenPrinted (SeesBeside contents saw) Prints p at_first_both both noted
-
-  abbrev OtherSees : List ℕ → ExitStatus → Type 0
-  OtherSees = HasSeenPrinted saw Prints p at_first_both.observer.now both.observer.now noted
-
-  -- what was printed, and what was seen of it
-  abbrev Shown : List ℕ → ExitStatus → Type 0
-  Shown text status = Printed text status × SeesTextBy saw Prints p at_first_both.observer.now both.observer.now noted runs text status
-
-  -- a history that was seen is printed so
-  seen_output : runs ≡ true → (text : List ℕ) (status : ExitStatus) → OtherSees text status → Shown text status
-  seen_output is text status sees =
-      (as_output is text status (record { history = sees.history; texts = sees.texts; times = noted; prints = sees.prints }), subst (λ (b : Bool). SeesTextBy saw Prints p at_first_both.observer.now both.observer.now noted b text status) (sym is) sees)
+  abbrev Prints : List ℕ → ExitStatus → Type 0
+  Prints = IsPrintedOf known asked settings p history texts noted
 
   either : (first.outlet ≡ Waiting) ⊎ (first.outlet ≡ Closed)
   either = elim (open_or_closed asked.details asked.replay asked.drive) [ inl opens ↦ inl (outlet ∙ opens) | inr shut ↦ inr (outlet ∙ shut) ]
-
-  untouched : both ≡ at_first_both → IsUnsent contents first now
-  untouched is = subst (λ (w : WatchedFeed W V S). IsUnsent contents first w.feed) (sym is) (record { same = refl; sent = none; whole = not_failed first.outlet either; kept = Appends-nil was })
 
   nothing_yet : IsPrinted contents p first first []
   nothing_yet = record {
@@ -168,18 +129,24 @@ module _ {W V S : Type 0} (contents : W → Option (List ℕ)) (saw : PlanParts 
     same_timings = refl;
     noted = All-nil (IsNotedIn (shown_times first).took);
     stopped = λ shut. record { outlet = refl; sent = refl; writer = refl };
-    so_far = λ live. at_first first.outlet either first.sent none (output_of first.form first.head.now p (shown_times first) []);
+    so_far = λ live. at_first_none first.outlet either first.sent none (output_of first.form first.head.now p (shown_times first) []);
     printed = λ live. subst (λ (n : ℕ). Appends was was (take n (output_of first.form first.head.now p (shown_times first) []))) (sym none) (Appends-nil was);
   }
 
-  beside_nothing : SeesBeside contents saw p at_first_both at_first_both []
-  beside_nothing = record { printed = nothing_yet; same = refl; seen = λ who before seen. subst (saw p who at_first_both.observer.now) (sym (append-nil before)) seen }
+  beside_nothing : SeesBeside contents saw p at_first at_first []
+  beside_nothing = record { printed = nothing_yet; same = refl; seen = λ who before told. subst (saw p who at_first.observer.now) (sym (append-nil before)) told }
 
-  shut_unsent : first.outlet ≡ Closed → (ts : List Telling) → IsPrinted contents p first now ts → IsUnsent contents first now
-  shut_unsent shut ts is =
-      let still = is.stopped (ap is_stopped shut) in
+  both_see : SeesBeside contents saw p at_first both (tellings_of texts history)
+  both_see = seen at_first [] beside_nothing
+
+  printed : IsPrinted contents p first now (tellings_of texts history)
+  printed = both_see.printed
+
+  shut_unsent : first.outlet ≡ Closed → IsUnsent contents first now
+  shut_unsent shut =
+      let still = printed.stopped (ap is_stopped shut) in
       record {
-        same = is.same;
+        same = printed.same;
         sent = still.sent ∙ none;
         whole = not_failed now.outlet (inr (still.outlet ∙ shut));
         kept = subst (λ (w : W). Appends was (contents w) []) (sym still.writer) (Appends-nil was);
@@ -192,250 +159,92 @@ module _ {W V S : Type 0} (contents : W → Option (List ℕ)) (saw : PlanParts 
     printed = subst (λ (n : ℕ). Appends was is_now (take n text)) (sym un.sent) un.kept;
   }
 
-  unsent_broken : IsUnsent contents first now → IsBrokenOff asked Shown now.outlet was is_now now.sent
-  unsent_broken un = inl (un.whole, un.sent, un.kept)
+  -- its lines tell the times that are asked for
+  shown_so : times_asked asked.times noted ≡ shown_times now
+  shown_so = ap (λ (b : Bool). times_asked b noted) (sym (printed.timed ∙ timed))
 
-  module _ (text : List ℕ) (status : ExitStatus) (watched : BothSee text status) where
-    is_text : IsTextOf asked settings p watched.history watched.texts noted text
-    is_text = as_text watched.history watched.texts noted text status watched.prints
+  whole_text : (text : List ℕ) (status : ExitStatus) (is : Prints text status) → prints_live asked.details ≡ true → text ≡ first.head.now ++ (lines_of first.form p texts (shown_times now) history ++ is.behind)
+  whole_text text status is live =
+      is.printed
+      ∙ ap (λ (lines : List ℕ). head_of asked.details settings.warnings ++ (lines ++ is.behind)) (lines_printed asked.details asked.theme p texts (times_asked asked.times noted) history live)
+      ∙ ap (λ (times : Times). head_of asked.details settings.warnings ++ (lines_of (form_by asked.details) p texts times history ++ is.behind)) shown_so
+      ∙ ap₂ (λ (xs : List ℕ) (f : LineForm). xs ++ (lines_of f p texts (shown_times now) history ++ is.behind)) (sym head) (sym form)
 
-    pub seen_both : SeesBeside contents saw p at_first_both both (tellings_of watched.texts watched.history)
-    seen_both = watched.seen at_first_both [] beside_nothing
-
-    seen : IsPrinted contents p first now (tellings_of watched.texts watched.history)
-    seen = seen_both.printed
-
-    other_sees : OtherSees text status
-    other_sees = record { history = watched.history; texts = watched.texts; prints = watched.prints; seen = seen_both.seen }
-
-    -- its lines tell the times that are asked for
-    shown_so : times_asked asked.times noted ≡ shown_times now
-    shown_so = ap (λ (b : Bool). times_asked b noted) (sym (seen.timed ∙ timed))
-
-    whole_text : prints_live asked.details ≡ true → text ≡ first.head.now ++ (lines_of first.form p watched.texts (shown_times now) watched.history ++ is_text.behind)
-    whole_text live =
-        is_text.printed
-        ∙ ap (λ (lines : List ℕ). head_of asked.details settings.warnings ++ (lines ++ is_text.behind)) (lines_printed asked.details asked.theme p watched.texts (times_asked asked.times noted) watched.history live)
-        ∙ ap (λ (times : Times). head_of asked.details settings.warnings ++ (lines_of (form_by asked.details) p watched.texts times watched.history ++ is_text.behind)) shown_so
-        ∙ ap₂ (λ (xs : List ℕ) (f : LineForm). xs ++ (lines_of f p watched.texts (shown_times now) watched.history ++ is_text.behind)) (sym head) (sym form)
-
-    pub watched_front : IsFront was is_now now.outlet now.sent text
-    watched_front = elim (open_or_closed asked.details asked.replay asked.drive) [
-      | inl opens ↦ front watched.texts watched.history is_text.ends contents p first now seen (ap is_stopped (outlet ∙ opens)) is_text.behind text (whole_text (lines_asked asked.details asked.replay asked.drive opens).0)
-      | inr shut ↦ unsent_front text (shut_unsent (outlet ∙ shut) _ seen)
-    ]
-
-    part_of : HasLiveFeed asked → IsShort now.outlet now.sent text → IsBrokenOff asked Shown now.outlet was is_now now.sent
-    part_of feed so = elim so [
-      | inl un ↦ inl (un.0, un.1, subst (λ (n : ℕ). Appends was is_now (take n text)) un.1 watched_front.printed)
-      | inr few ↦ inr (
-        record {
-          text = text;
-          status = status;
-          output = seen_output (live feed) text status other_sees;
-          short = few;
-          written = watched_front.printed;
-        },
-        feed,
-      )
-    ]
-
-    pub watched_broken : IsBrokenOff asked Shown now.outlet was is_now now.sent
-    watched_broken = elim (open_or_closed asked.details asked.replay asked.drive) [
-      | inl opens ↦
-          (let feed = lines_asked asked.details asked.replay asked.drive opens in
-          part_of feed (front_short watched.texts watched.history is_text.ends contents p first now seen (ap is_stopped (outlet ∙ opens)) is_text.behind text (whole_text feed.0)))
-      | inr shut ↦ unsent_broken (shut_unsent (outlet ∙ shut) _ seen)
-    ]
-
-  -- nothing was seen, or something
-  sees_some : (b : Bool) (result : Result Output LaunchFault) → WatchesBy (SeesBeside contents saw) Prints p at_first_both both noted b result → (both ≡ at_first_both) ⊎ SomeOutput BothSee
-  sees_some true (Ok report) is = inr (record { text = string_bytes report.text; status = report.status; output = is })
-  sees_some true (Err fault) is = elim is [ inl same ↦ inl same | inr vain ↦ inr vain.1 ]
-  sees_some false result is = inl is
-
-  still_by : (both ≡ at_first_both) ⊎ SomeOutput BothSee → now.writer.ghost_name ≡ first.writer.ghost_name
-  still_by is = elim is [ inl same ↦ (untouched same).same | inr some ↦ (seen some.text some.status some.output).same ]
-
-  times_by : (both ≡ at_first_both) ⊎ SomeOutput BothSee → now.timings.ghost_name ≡ first.timings.ghost_name
-  times_by is = elim is [ inl same ↦ ap (λ (w : WatchedFeed W V S). w.feed.timings.ghost_name) same | inr some ↦ (seen some.text some.status some.output).same_timings ]
-
-  watcher_by : (both ≡ at_first_both) ⊎ SomeOutput BothSee → both.observer.ghost_name ≡ at_first_both.observer.ghost_name
-  watcher_by is = elim is [ inl same ↦ ap (λ (w : WatchedFeed W V S). w.observer.ghost_name) same | inr some ↦ (seen_both some.text some.status some.output).same ]
-
-  same_other : both ≡ at_first_both → both.observer.now ≡ at_first_both.observer.now
-  same_other is = ap (λ (w : WatchedFeed W V S). w.observer.now) is
-
-  shown_by : (b : Bool) → runs ≡ b → (result : Result Output LaunchFault) → IfOk result (λ report. Printed (string_bytes report.text) report.status) → WatchesBy (SeesBeside contents saw) Prints p at_first_both both noted b result
-      → IfOk result (λ report. Shown (string_bytes report.text) report.status)
-  shown_by true same (Ok report) printed is = seen_output same (string_bytes report.text) report.status (other_sees (string_bytes report.text) report.status is)
-  shown_by false same (Ok report) printed is =
-      (printed, subst (λ (b : Bool). SeesTextBy saw Prints p at_first_both.observer.now both.observer.now noted b (string_bytes report.text) report.status) (sym same) (same_other is))
-  shown_by b same (Err fault) printed is = tt
-
-  refused_by : (b : Bool) → runs ≡ b → (result : Result Output LaunchFault) → WatchesBy (SeesBeside contents saw) Prints p at_first_both both noted b result → IfErr result (SeesRefusal at_first_both.observer.now both.observer.now Shown)
-  refused_by b same (Ok report) is = tt
-  refused_by true same (Err fault) is = elim is [
-    | inl as_it_was ↦ inl (same_other as_it_was)
-    | inr vain ↦ inr (vain.0, record { text = vain.1.text; status = vain.1.status; output = seen_output same vain.1.text vain.1.status (other_sees vain.1.text vain.1.status vain.1.output) })
+  -- a front of what may be printed of it
+  pub front : (text : List ℕ) (status : ExitStatus) → Prints text status → IsFront was is_now now.outlet now.sent text
+  front text status is = elim (open_or_closed asked.details asked.replay asked.drive) [
+    | inl opens ↦ feed_front texts history ends contents p first now printed (ap is_stopped (outlet ∙ opens)) is.behind text (whole_text text status is (lines_asked asked.details asked.replay asked.drive opens).0)
+    | inr shut ↦ unsent_front text (shut_unsent (outlet ∙ shut))
   ]
-  refused_by false same (Err fault) is = inl (same_other is)
 
-  front_by : (b : Bool) (result : Result Output LaunchFault) → WatchesBy (SeesBeside contents saw) Prints p at_first_both both noted b result → IfOk result (λ report. IsFront was is_now now.outlet now.sent (string_bytes report.text))
-  front_by true (Ok report) is = watched_front (string_bytes report.text) report.status is
-  front_by false (Ok report) is = unsent_front (string_bytes report.text) (untouched is)
-  front_by b (Err fault) is = tt
+  pub fits : (text : List ℕ) (status : ExitStatus) → Prints text status → Fits now.outlet now.sent text
+  fits text status is = (let is_front = front text status is in (is_front.fits, is_front.failed))
 
-  always : {P : Type 0} (result : Result Output LaunchFault) → P → IfErr result (λ fault. P)
-  always (Ok report) is = tt
-  always (Err fault) is = is
+  -- something may be printed of it, whatever memory there is
+  some_behind : (behind : List ℕ) × IsBehindRun asked.details asked.schedule settings.workers p known history texts behind
+  some_behind = some_line known asked.details asked.schedule settings.workers p history texts
 
-  broken_by : (both ≡ at_first_both) ⊎ SomeOutput BothSee → IsBrokenOff asked Shown now.outlet was is_now now.sent
-  broken_by is = elim is [ inl same ↦ unsent_broken (untouched same) | inr some ↦ watched_broken some.text some.status some.output ]
+  some_text : List ℕ
+  some_text = head_of asked.details settings.warnings ++ (details_of asked.details asked.theme p texts (times_asked asked.times noted) history ++ some_behind.0)
 
-  module _ (result : Result Output LaunchFault) (is : WatchesBy (SeesBeside contents saw) Prints p at_first_both both noted runs result) where
-    pub still_same : now.writer.ghost_name ≡ first.writer.ghost_name
-    still_same = still_by (sees_some runs result is)
+  some_status : ExitStatus
+  some_status = status_of_run asked.fail_if_no_tests (tests_found p history) (has_failed p history)
 
-    pub same_timings : now.timings.ghost_name ≡ first.timings.ghost_name
-    same_timings = times_by (sees_some runs result is)
+  some_print : Prints some_text some_status
+  unfolding some_text some_status
+  some_print = record { behind = some_behind.0; is_behind = some_behind.1; printed = refl; exits = refl }
 
-    pub same_observer : both.observer.ghost_name ≡ at_first_both.observer.ghost_name
-    same_observer = watcher_by (sees_some runs result is)
+  part_of : HasLiveFeed asked → (text : List ℕ) (status : ExitStatus) → Prints text status → IsShort now.outlet now.sent text → IsBrokenOff asked Prints now.outlet was is_now now.sent
+  part_of feed text status is so = elim so [
+    | inl un ↦ inl (un.0, un.1, subst (λ (n : ℕ). Appends was is_now (take n text)) un.1 (front text status is).printed)
+    | inr few ↦ inr (record { text = text; status = status; output = is; short = few; written = (front text status is).printed }, feed)
+  ]
 
-    -- what is printed, and what was seen of it by who watches beside the feed
-    pub shown_output : IfOk result (λ report. Printed (string_bytes report.text) report.status) → IfOk result (λ report. Shown (string_bytes report.text) report.status)
-    shown_output printed = shown_by runs refl result printed is
+  broken_off : IsBrokenOff asked Prints now.outlet was is_now now.sent
+  broken_off = elim (open_or_closed asked.details asked.replay asked.drive) [
+    | inl opens ↦
+        (let feed = lines_asked asked.details asked.replay asked.drive opens in
+        part_of feed some_text some_status some_print (front_short texts history ends contents p first now printed (ap is_stopped (outlet ∙ opens)) some_print.behind some_text (whole_text some_text some_status some_print feed.0)))
+    | inr shut ↦ (let un = shut_unsent (outlet ∙ shut) in inl (un.whole, un.sent, un.kept))
+  ]
 
-    pub shown_refusal : IfErr result (SeesRefusal at_first_both.observer.now both.observer.now Shown)
-    shown_refusal = refused_by runs refl result is
+  pub sent_so : IsSentSo asked Prints now.outlet now.sent was is_now
+  sent_so = record { front = front; broken = broken_off }
 
-    pub shown_front : IfOk result (λ report. IsFront was is_now now.outlet now.sent (string_bytes report.text))
-    shown_front = front_by runs result is
+  -- the feed, its table of times and who watches beside it are the same, and the latter has seen the run
+  pub same_writer : now.writer.ghost_name ≡ first.writer.ghost_name
+  same_writer = printed.same
 
-    pub shown_broken : IfErr result (λ fault. IsBrokenOff asked Shown now.outlet was is_now now.sent)
-    shown_broken = always result (broken_by (sees_some runs result is))
+  pub same_times : now.timings.ghost_name ≡ first.timings.ghost_name
+  same_times = printed.same_timings
+
+  pub same_watcher : both.observer.ghost_name ≡ at_first.observer.ghost_name
+  same_watcher = both_see.same
+
+  pub watcher_saw : HasSeenMore saw p (tellings_of texts history) at_first.observer.now both.observer.now
+  watcher_saw = both_see.seen
 
 pub carried : {A : Type 0} {a b : A} → b ≡ a → (P : A → Type 0) → P a → P b
 carried same P p = subst P (sym same) p
 
-pub all_carried : {A B C : Type 0} {a b : A} {c d : B} {e f : C} → b ≡ a → d ≡ c → f ≡ e → (P : A → B → C → Type 0) → P a c e → P b d f
-all_carried {A} {B} {C} {a} {b} {c} {d} {e} {f} same also besides P p = subst (λ (x : A). P x d f) (sym same) (subst (λ (y : B). P a y f) (sym also) (subst (P a c) (sym besides) p))
+-- where nothing was told of an output nothing was written
+with_quiet : (asked : Asked) (Prints : List ℕ → ExitStatus → Type 0) (old new : Option (List ℕ)) (fault : LaunchFault) (cut : Option CutOutput) → IsRefusedBy asked Prints (λ f. f ≡ NoMemory) cut fault old new → (is_writing fault ≡ false → Keeps old new) → IsRefusedBy asked Prints (LacksAll old new) cut fault old new
+with_quiet asked Prints old new fault (Some cut) is quiet_so = is
+with_quiet asked Prints old new fault None is quiet_so = (is, quiet_so (ap is_writing is))
 
--- what a run prints is what is printed of its plan, where this is run
-module _ (asked : Asked) (settings : Settings) (p : PlanParts) (answers : List (ℕ × Reply)) (text : List ℕ) (status : ExitStatus) (output : IsRunOutput asked settings p answers text status) where
-  plan_ran : (kind : Details) → is_run None kind ≡ true → IsPlanOutput kind asked settings p answers text status
-  plan_ran details.None runs = output
-  plan_ran details.Summary runs = output
-  plan_ran details.Tree runs = output
-  plan_ran details.Testfeed runs = output
-  plan_ran details.Json runs = output
-  plan_ran details.Xml runs = output
-  plan_ran details.List runs = absurd (true≢false (sym runs))
-  plan_ran details.Plan runs = absurd (true≢false (sym runs))
+-- what is answered where there was no memory for what is left
+pub broken_print : {asked : Asked} {Prints : List ℕ → ExitStatus → Type 0} {outlet told : Outlet} {sent count : ℕ} {old new : Option (List ℕ)} → IsSentSo asked Prints outlet sent old new → told ≡ outlet → count ≡ sent → (result : LaunchFault) → (told ≡ Failed → result ≡ Writing (cut_by_writer count)) → (told ≢ Failed → 0 < count → result ≡ Writing (cut_by_memory count))
+    → (told ≢ Failed → count ≡ 0 → result ≡ NoMemory) → IsPrintedTo asked Prints old new (Err result)
+broken_print {asked} {Prints} {outlet} {told} {sent} {count} {old} {new} so same many result failed some none =
+    let at = subst (λ (o : Outlet). IsBrokenOff asked Prints o old new count) (sym same) (subst (λ (n : ℕ). IsBrokenOff asked Prints outlet old new n) (sym many) so.broken) in
+    with_quiet asked Prints old new result (cut_in result) (broken asked Prints (λ f. f ≡ NoMemory) old new NoMemory result refl refl told count at failed some none) (λ other. quiet asked Prints old new result other told count at failed some)
 
-  suite_ran : (replay : Option (List Step)) → is_run replay asked.details ≡ true → IsOutputWith replay asked settings p answers text status
-  suite_ran None runs = plan_ran asked.details runs
-  suite_ran (Some steps) runs = absurd (true≢false (sym runs))
+-- of one plan, and with the same times
+pub same_sent : {p q : PlanParts} {known : Option (List (ℕ × Reply))} {asked : Asked} {settings : Settings} {history : List Event} {texts : TextParts} {times : Times} {outlet : Outlet} {sent : ℕ} {old new : Option (List ℕ)} → p ≡ q
+    → IsSentSo asked (IsPrintedOf known asked settings p history texts times) outlet sent old new → IsSentSo asked (IsPrintedOf known asked settings q history texts times) outlet sent old new
+same_sent {p} {q} {known} {asked} {settings} {history} {texts} {times} {outlet} {sent} {old} {new} same is = subst (λ (r : PlanParts). IsSentSo asked (IsPrintedOf known asked settings r history texts times) outlet sent old new) same is
 
-pub suite_output_of : (asked : Asked) (settings : Settings) (p : PlanParts) (answers : List (ℕ × Reply)) → is_run asked.replay asked.details ≡ true → (text : List ℕ) (status : ExitStatus) → IsRunOutput asked settings p answers text status → IsOutput asked settings p answers text status
-suite_output_of asked settings p answers runs text status output = suite_ran asked settings p answers text status output asked.replay runs
-
-pub suite_text_of : (asked : Asked) (settings : Settings) (p : PlanParts) (answers : List (ℕ × Reply)) (history : List Event) (texts : TextParts) (times : Times) (text : List ℕ) (status : ExitStatus) → IsPrintedRun asked settings p answers history texts times text status
-    → IsTextOf asked settings p history texts times text
-suite_text_of asked settings p answers history texts times text status prints = record { ends = prints.published.ends; behind = prints.schedule; printed = prints.printed }
-
--- a plan whose lines are printed while it goes on is run
-pub feed_runs : (asked : Asked) → HasLiveFeed asked → is_run asked.replay asked.details ≡ true
-feed_runs asked lines = ap (λ (replay : Option (List Step)). is_run replay asked.details) lines.1 ∙ lines_run asked.details lines.0
-
--- a refusal of a suite tells of no output
-suite_uncut : (asked : Asked) (suite : SuiteParts) (fault : LaunchFault) → FailsSuite asked suite fault → cut_in fault ≡ None
-suite_uncut asked suite NoMemory fails = refl
-suite_uncut asked suite (OfSuite f) fails = refl
-suite_uncut asked suite BadWords fails = refl
-suite_uncut asked suite (BadStep n) fails = refl
-suite_uncut asked suite (BadReport n) fails = refl
-suite_uncut asked suite (CutReport n) fails = refl
-suite_uncut asked suite UnreadRun fails = refl
-suite_uncut asked suite (BadSavedLine n) fails = refl
-suite_uncut asked suite (UnreadWords n) fails = refl
-suite_uncut asked suite (BadSelector n) fails = refl
-suite_uncut asked suite (BadTags f) fails = refl
-suite_uncut asked suite (BadPair f) fails = refl
-suite_uncut asked suite (BadSettings f) fails = refl
-suite_uncut asked suite (NothingMatches n) fails = refl
-suite_uncut asked suite TooManyKeys fails = refl
-suite_uncut asked suite TooManyWorkers fails = refl
-suite_uncut asked suite NoWorker fails = refl
-suite_uncut asked suite Reading fails = refl
-suite_uncut asked suite (Writing f) fails = absurd fails
-
-module _ {L : Type 0} (saw : PlanParts → L → L → List Telling → Type 0) (first now : L) (times : Times) (asked : Asked) (suite : SuiteParts) (old new : Option (List ℕ)) where
-  abbrev Shows : List ℕ → ExitStatus → Type 0
-  Shows = IsSeenSuiteOutput saw first now times asked suite
-
-  abbrev Fails : LaunchFault → Type 0
-  Fails fault = FailsSuite asked suite fault × SeesRefusal first now Shows fault
-
-  -- what is refused before anything is run
-  pub refused_suite : (fault : LaunchFault) (result : Result ExitStatus LaunchFault) → IsErrAnd result (λ e. e ≡ fault) → now ≡ first → FailsSuite asked suite fault → IsSeenSuiteRun saw first now times asked suite old new result
-  refused_suite fault (Ok status) is same fails = absurd is
-  refused_suite fault (Err e) is same fails = subst (λ (f : LaunchFault). IsSeenSuiteRun saw first now times asked suite old new (Err f)) (sym is) (refused asked Shows Fails old new fault (suite_uncut asked suite fault fails) (fails, inl same))
-
-  unseen : (text : List ℕ) (status : ExitStatus) → Shows text status → IsSuiteOutput asked suite text status
-  unseen text status shows =
-      let told = shows.output in
-      record {
-        told = shows.told;
-        output = record { accepted = told.accepted; settings = told.settings; are = told.are; output = told.output.0; never_stuck = told.never_stuck };
-        exits = shows.exits;
-      }
-
-  -- a run that somebody watches is a run
-  pub suite_run : (result : Result ExitStatus LaunchFault) → IsSeenSuiteRun saw first now times asked suite old new result → IsSuiteRun asked suite old new result
-  suite_run result is = answered_as asked Shows (IsSuiteOutput asked suite) Fails (FailsSuite asked suite) unseen (λ fault fails. fails.0) old new result is
-
-  -- it is asked whether something is missing
-  pub judged_run : (missing : Bool) → missing ≡ is_missing asked suite.tree → (result given : Result ExitStatus LaunchFault) → given ≡ answer_unless missing result → IsSeenReadyRun saw first now times asked suite old new result → IsSeenSuiteRun saw first now times asked suite old new given
-  judged_run missing is result given same run =
-      subst (λ (r : Result ExitStatus LaunchFault). IsSeenSuiteRun saw first now times asked suite old new r) (sym same) (subst (λ (b : Bool). IsAnswered asked (IsJudged b (IsSuiteOutputBy (IsSeenOutput saw first now times asked) asked suite)) (λ f. FailsSuite asked suite f × SeesRefusal first now (IsJudged b (IsSuiteOutputBy (IsSeenOutput saw first now times asked) asked suite)) f) old new (answer_unless missing result)) is
-      (judged missing (IsSuiteOutputBy (IsSeenOutput saw first now times asked) asked suite) asked (FailsSuite asked suite) first now old new result run))
-
-  abbrev Readies : List ℕ → ExitStatus → Type 0
-  Readies = IsSuiteOutputBy (IsSeenOutput saw first now times asked) asked suite
-
-  abbrev Breaks : LaunchFault → Type 0
-  Breaks fault = FailsSuite asked suite fault × SeesRefusal first now Readies fault
-
-  -- what is answered of a suite that is ready to be run
-  module _ (settings : Settings) (p : PlanParts) (answers : List (ℕ × Reply)) (ready : IsReady asked suite settings p answers) where
-    pub memory : (result : Result ExitStatus LaunchFault) → IfErr result (λ fault. fault ≡ NoMemory → TakesMemory asked suite)
-    memory (Ok status) = tt
-    memory (Err e) = λ same. ready_takes asked suite settings p answers ready
-
-    abbrev Prints : List ℕ → ExitStatus → Type 0
-    Prints = IsSeenOutput saw first now times asked settings p answers
-
-    pub shows_suite : (text : List ℕ) (status : ExitStatus) → Prints text status → Readies text status
-    shows_suite = ready_output asked suite settings p answers ready (IsSeenOutput saw first now times asked)
-
-    pub cut : (text : List ℕ) (status : ExitStatus) (fault : WriteFault) (result : Result ExitStatus LaunchFault) → IsErrAnd result (λ e. e ≡ Writing (cut_by_writer fault.sent)) → Prints text status
-        → (fault.sent < length text) × Appends old new (take fault.sent text) → IsSeenReadyRun saw first now times asked suite old new result
-    cut text status fault result is output sent = cut_short asked Readies Breaks old new text status fault result is (shows_suite text status output) sent
-
-    pub whole : (text : List ℕ) (status : ExitStatus) → Prints text status → Appends old new text → IsAllOf Readies old new status
-    whole text status output sent = whole_of asked Readies Breaks old new text status (shows_suite text status output) sent
-
-    in_vain : (fault : LaunchFault) → SeesRefusal first now Prints fault → SeesRefusal first now Readies fault
-    in_vain fault is = elim is [
-      | inl same ↦ inl same
-      | inr vain ↦ inr (vain.0, record { text = vain.1.text; status = vain.1.status; output = shows_suite vain.1.text vain.1.status vain.1.output })
-    ]
-
-    -- a run that broke off is answered by its fault, unless its writer failed or a part of it was written
-    pub broken : (fault result : LaunchFault) (outlet : Outlet) (sent : ℕ) → IsUnrun asked fault → SeesRefusal first now Prints fault → IsBrokenOff asked Prints outlet old new sent → (outlet ≡ Failed → result ≡ Writing (cut_by_writer sent))
-        → (outlet ≢ Failed → 0 < sent → result ≡ Writing (cut_by_memory sent)) → (outlet ≢ Failed → sent ≡ 0 → result ≡ fault) → IsSeenReadyRun saw first now times asked suite old new (Err result)
-    broken fault result outlet sent why seen so failed some same =
-        answered_as asked Prints Readies Breaks Breaks shows_suite (λ f is. is) old new (Err result)
-        (broken_run asked Prints Breaks old new fault result (uncut_by (is_run asked.replay asked.details) fault why) (ready_unrun asked suite settings p answers ready fault why, in_vain fault seen) outlet sent so failed some same)
+pub same_print : {p q : PlanParts} {t u : Times} (known : Option (List (ℕ × Reply))) (asked : Asked) (settings : Settings) (history : List Event) (texts : TextParts) (old new : Option (List ℕ)) (result : Result ExitStatus LaunchFault) → p ≡ q → t ≡ u
+    → IsPrintedTo asked (IsPrintedOf known asked settings p history texts t) old new result → IsPrintedTo asked (IsPrintedOf known asked settings q history texts u) old new result
+same_print {p} {q} {t} {u} known asked settings history texts old new result same also is =
+    subst (λ (r : PlanParts). IsPrintedTo asked (IsPrintedOf known asked settings r history texts u) old new result) same (subst (λ (v : Times). IsPrintedTo asked (IsPrintedOf known asked settings p history texts v) old new result) also is)

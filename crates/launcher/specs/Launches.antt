@@ -1,4 +1,4 @@
--- What a launch comes to: its answer, and the run that is over, of which all that is printed speaks.
+-- What a launch comes to: its answer, and the run that is over, of which all that is printed and all that was seen speaks.
 use Rattle.std.specs.Prelude.{◌≡◌, ◌<◌, ◌≤◌, ℕ, List, length, Option, Some, None, Result}
 use Rattle.std.specs.Io.KnownBytes.{Keeps}
 use Rattle.std.specs.Result.{IsErrAnd}
@@ -41,23 +41,25 @@ LacksAll old new fault = (fault ≡ NoMemory) × Keeps old new
 abbrev pub IsPrintedTo : Asked → (List ℕ → ExitStatus → Type 0) → (old new : Option (List ℕ)) → Result ExitStatus LaunchFault → Type 0
 IsPrintedTo asked Prints old new = IsAnswered asked Prints (LacksAll old new) old new
 
-module _ {B : Type 0} (answers : B → List Reply) (gives : B → Reply → Type 0) (says : B → Outcome → Type 0) (known : Option (List (ℕ × Reply))) {L : Type 0} (saw : PlanParts → L → L → List Telling → Type 0) (first now : L) (times : Times) (asked : Asked) (settings : Settings) (p : PlanParts) (jobs : List (ℕ × B)) (old new : Option (List ℕ)) where
-  -- A run of these jobs is over, and this is it: whoever watches has seen it, its used jobs say what was told, and what is printed of it,
-  -- with these times, was written.
+-- whoever watches has seen the run that is handed out, each event with its text; and where none is, nothing
+abbrev pub Sees : {B L : Type 0} → (PlanParts → L → L → List Telling → Type 0) → (first now : L) → Option (Report B) → Type 0
+Sees saw first now (Some ran) = HasSeenMore saw ran.plan (tellings_of ran.texts ran.events.items) first now
+Sees saw first now None = now ≡ first
+
+-- nothing was run, for want of memory or of threads, and nothing was written
+pub record IsUnbegun (old new : Option (List ℕ)) (answer : Result ExitStatus LaunchFault) : Type 0 where
+  pub fault : IsErrAnd answer LacksMeans
+  pub unwritten : new ≡ old
+
+module _ {B : Type 0} (answers : B → List Reply) (gives : B → Reply → Type 0) (says : B → Outcome → Type 0) (known : Option (List (ℕ × Reply))) (times : Times) (asked : Asked) (settings : Settings) (p : PlanParts) (jobs : List (ℕ × B)) (old new : Option (List ℕ)) where
+  -- A run of these jobs is over, and this is it: its used jobs say what was told, and what is printed of it, with these times, was written.
   pub record IsRunOver (ran : Report B) (answer : Result ExitStatus LaunchFault) : Type 0 where
     pub plan : ran.plan ≡ p
     pub has : HasRun answers gives settings.workers asked.ring p jobs ran.events.items ran.texts ran.unused_jobs.items
     pub said : IsToldAsSaid says (given_by gives (run_of p settings.workers asked.ring jobs)) (replies_of answers (run_of p settings.workers asked.ring jobs)) p settings.workers ran.events.items ran.texts ran.used_jobs.items
-    pub seen : HasSeenMore saw p (tellings_of ran.texts ran.events.items) first now
     pub printed : IsPrintedTo asked (IsPrintedOf known asked settings p ran.events.items ran.texts times) old new answer
-
-  -- nothing was run, for want of memory or of threads: nothing was seen, and nothing was written
-  pub record IsUnbegun (answer : Result ExitStatus LaunchFault) : Type 0 where
-    pub fault : IsErrAnd answer LacksMeans
-    pub unseen : now ≡ first
-    pub unwritten : new ≡ old
 
   -- what a launch comes to
   abbrev pub IsLaunched : Option (Report B) → Result ExitStatus LaunchFault → Type 0
   IsLaunched (Some ran) answer = IsRunOver ran answer
-  IsLaunched None answer = IsUnbegun answer
+  IsLaunched None answer = IsUnbegun old new answer

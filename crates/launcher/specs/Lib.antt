@@ -1,12 +1,11 @@
+-- The definitions that contracts cite.
 pub mod Faults
 pub mod FiledLaunches
-pub mod FiledRuns
 pub mod Launches
-pub mod ProgramLaunches
+pub mod PlannedLaunches
 pub mod Programs
-pub mod ReportedRuns
 pub mod Reports
 pub mod RunReports
-pub mod Runs
-pub mod SlowestRuns
+pub mod Sources
+pub mod SuiteLaunches
 pub mod Watched

@@ -1,5 +1,5 @@
 -- What is run and printed of a program's jobs, of which nobody knows beforehand what they answer.
-use Rattle.std.specs.Prelude.{◌≡◌, ℕ, ◌<◌, ◌⊎◌, true, false, List, [], ◌∷◌, ◌++◌, Option, Some, None, slice_get, Result, Ok}
+use Rattle.std.specs.Prelude.{◌≡◌, ℕ, ◌<◌, ◌⊎◌, true, false, List, [], ◌∷◌, ◌++◌, Option, Some, slice_get}
 use Rattle.std.specs.Option.{is_some}
 use Rattle.config_params.specs.declared.settings.Settings.{Settings}
 use Rattle.descriptor.specs.Nodes.{Nodes, size, body_of, after_of}
@@ -7,7 +7,6 @@ use Rattle.plan_events.specs.declared.event.Event.{Event}
 use Rattle.plan_events.specs.declared.outcome.Reply.{Reply}
 use Rattle.plan_events.specs.Texts.{TextParts}
 use Rattle.resource_locks.specs.Plans.{PlanParts}
-use Rattle.resource_locks.specs.Spares.{HasBareSpares}
 use Rattle.event_history.specs.Apart.{IsApart}
 use Rattle.event_history.specs.Exclusion.{IsExclusive}
 use Rattle.event_history.specs.Limits.{IsWithinLimits}
@@ -17,31 +16,19 @@ use Rattle.event_history.specs.Order.{IsInOrder}
 use Rattle.event_history.specs.Parts.{EndsInPlan}
 use Rattle.event_history.specs.Plans.{is_same}
 use Rattle.junit_report.specs.Expectations.{IsPrintedAsExpected}
-use Rattle.never_stuck.specs.Reaching.{NeverStuck}
-use Rattle.suite_text.specs.Reading.Parts.{SuiteParts}
 use Rattle.table_rule.specs.Picture.{given_by, replies_of}
 use Rattle.table_rule.specs.Reached.{Agrees}
 use Rattle.table_rule.specs.Slots.{job_with}
 use Rattle.run_table.specs.Balance.{IsBalanced, IsUsed}
 use Rattle.worker_pool.specs.Reports.{run_of, AreTexts, IsToldAsGiven}
 use Rattle.job_times.specs.Timings.{Times, times_asked}
-use Rattle.listeners.specs.Listeners.{Telling}
 use Rattle.run_results.specs.Results.{tests_found, has_failed}
 use Rattle.launch_options.specs.Asked.{Asked}
-use Rattle.launch_options.specs.declared.details.Details.{Details}
-use Rattle.launch_options.specs.declared.details.Details.TheVariants as details
-use Rattle.launch_options.specs.declared.fault.LaunchFault.{LaunchFault}
 use Rattle.run_outputs.specs.declared.exit_status.ExitStatus.{ExitStatus}
 use Rattle.run_outputs.specs.ExitStatuses.{status_of_run}
-use Rattle.run_outputs.specs.Missing.{IsJudged, is_missing}
 use Rattle.run_outputs.specs.ScheduleLines.{IsBehindRun}
-use Rattle.run_outputs.specs.Outputs.{details_of, IsExpectedOutput, IsListing, IsPlanned}
-use Rattle.launcher.specs.Reports.{HasHistory}
-use Rattle.ready_runs.specs.Ready.{plan_in, settings_in}
+use Rattle.run_outputs.specs.Outputs.{details_of}
 use Rattle.run_outputs.specs.WarningTexts.{head_of}
-use Rattle.launcher.specs.Watched.{IsAnswered, LacksBy, SeesRefusal, SeesTextBy}
-use Rattle.run_outputs.specs.Outputs.{is_run}
-use Rattle.ready_runs.specs.ReadyPrograms.{FailsProgram, program_refusal}
 
 -- each body and each after-body of the tree has a job
 abbrev pub HasJobs : {B : Type 0} → Nodes → List (ℕ × B) → Type 0
@@ -97,67 +84,3 @@ pub record IsPrintedOf (known : Option (List (ℕ × Reply))) (asked : Asked) (s
   pub is_behind : IsBehindRun asked.details asked.schedule settings.workers p known history texts behind
   pub printed : text ≡ head_of asked.details settings.warnings ++ (details_of asked.details asked.theme p texts (times_asked asked.times times) history ++ behind)
   pub exits : status ≡ status_of_run asked.fail_if_no_tests (tests_found p history) (has_failed p history)
-
--- of jobs that may answer so, and what is known beforehand of what they do, if it is
-module _ {B : Type 0} (answers : B → List Reply) (gives : B → Reply → Type 0) (known : Option (List (ℕ × Reply))) where
-  -- there is a run of these jobs by the settings' workers with this history, and these texts and times of its nodes, of which this is printed
-  pub record IsPrintedJobs (asked : Asked) (settings : Settings) (p : PlanParts) (jobs : List (ℕ × B)) (history : List Event) (texts : TextParts) (times : Times) (text : List ℕ) (status : ExitStatus) : Type 0 where
-    pub left : List (ℕ × B)
-    pub ran : HasRun answers gives settings.workers asked.ring p jobs history texts left
-    pub prints : IsPrintedOf known asked settings p history texts times text status
-    -- and unless the plan fails fast all this but a feed and what stands behind is what is expected by the replies of the run, whatever the
-    -- workers did
-    pub as_expected : p.fail_fast ≡ false → IsExpectedOutput asked settings p.tree ran.reply prints.behind text status
-
-  -- the settings' workers run these jobs on the plan, and this is printed of it
-  abbrev pub IsJobsOutput : Asked → Settings → PlanParts → List (ℕ × B) → List ℕ → ExitStatus → Type 0
-  IsJobsOutput asked settings p jobs = HasHistory (IsPrintedJobs asked settings p jobs)
-
-  -- what is printed of a plan with these jobs: they are run, unless the list or the nodes are asked for
-  abbrev pub IsProgramOutput : Details → Asked → Settings → PlanParts → List (ℕ × B) → List ℕ → ExitStatus → Type 0
-  IsProgramOutput details.None asked settings p jobs text status = IsJobsOutput asked settings p jobs text status
-  IsProgramOutput details.Summary asked settings p jobs text status = IsJobsOutput asked settings p jobs text status
-  IsProgramOutput details.Tree asked settings p jobs text status = IsJobsOutput asked settings p jobs text status
-  IsProgramOutput details.Testfeed asked settings p jobs text status = IsJobsOutput asked settings p jobs text status
-  IsProgramOutput details.Json asked settings p jobs text status = IsJobsOutput asked settings p jobs text status
-  IsProgramOutput details.Xml asked settings p jobs text status = IsJobsOutput asked settings p jobs text status
-  IsProgramOutput details.List asked settings p jobs text status = IsListing asked.fail_if_no_tests p text status
-  IsProgramOutput details.Plan asked settings p jobs text status = IsPlanned asked.fail_if_no_tests settings.warnings p text status
-
-module _ {B : Type 0} (answers : B → List Reply) (gives : B → Reply → Type 0) (known : Option (List (ℕ × Reply))) {L : Type 0} (saw : PlanParts → L → L → List Telling → Type 0) (first now : L) (times : Times) (asked : Asked) (settings : Settings) (p : PlanParts) (jobs : List (ℕ × B)) where
-  -- what is printed of a plan; and whoever watches has seen the very history that is printed, with these times, or, where nothing is run,
-  -- nothing
-  abbrev pub IsSeenProgram : List ℕ → ExitStatus → Type 0
-  IsSeenProgram text status = IsProgramOutput answers gives known asked.details asked settings p jobs text status × SeesTextBy saw (IsPrintedJobs answers gives known asked settings p jobs) p first now times (is_run None asked.details) text status
-
-  -- the answer of a run of this plan that somebody watches
-  abbrev pub IsSeenPlanRun : Option (List ℕ) → Option (List ℕ) → Result ExitStatus LaunchFault → Type 0
-  IsSeenPlanRun = IsAnswered asked IsSeenProgram (λ fault. LacksBy (is_run None asked.details) fault × SeesRefusal first now IsSeenProgram fault)
-
--- what the request selects of a program's tree is run by the settings, and this is printed of that plan: the text, and the status
-pub record IsSelectedBy (Prints : Settings → PlanParts → List ℕ → ExitStatus → Type 0) (asked : Asked) (parts : SuiteParts) (text : List ℕ) (status : ExitStatus) : Type 0 where
-  pub accepted : program_refusal asked parts ≡ None
-  pub settings : Settings
-  pub are : settings_in asked parts ≡ Ok settings
-  pub output : Prints settings (plan_in asked parts.tree parts.properties settings) text status
-  -- whatever the workers of this plan do first, it can still be brought to its end
-  pub never_stuck : HasBareSpares parts.tree → NeverStuck (plan_in asked parts.tree parts.properties settings)
-
-module _ {B : Type 0} (answers : B → List Reply) (gives : B → Reply → Type 0) (asked : Asked) (parts : SuiteParts) (jobs : List (ℕ × B)) where
-  -- what is printed of a program's jobs, and the status, which of a shard says too that nothing is selected
-  abbrev pub IsSelectedOutput : List ℕ → ExitStatus → Type 0
-  IsSelectedOutput = IsJudged (is_missing asked parts.tree) (IsSelectedBy (λ settings p. IsProgramOutput answers gives None asked.details asked settings p jobs) asked parts)
-
-  -- the answer of a run of a program's jobs, and what the writer held before and holds after
-  abbrev pub IsProgramRun : Option (List ℕ) → Option (List ℕ) → Result ExitStatus LaunchFault → Type 0
-  IsProgramRun = IsAnswered asked IsSelectedOutput (FailsProgram asked parts)
-
-  module _ {L : Type 0} (saw : PlanParts → L → L → List Telling → Type 0) (first now : L) (times : Times) where
-    -- what is printed of a program's jobs, and the status; and whoever watches has seen the very history that is printed, with these
-    -- times, or, where nothing is run, nothing
-    abbrev pub IsSeenSelectedOutput : List ℕ → ExitStatus → Type 0
-    IsSeenSelectedOutput = IsJudged (is_missing asked parts.tree) (IsSelectedBy (λ settings p. IsSeenProgram answers gives None saw first now times asked settings p jobs) asked parts)
-
-    -- the answer of a run that somebody watches, who was like this at first and is like this in the end, with these times in the end
-    abbrev pub IsSeenProgramRun : Option (List ℕ) → Option (List ℕ) → Result ExitStatus LaunchFault → Type 0
-    IsSeenProgramRun = IsAnswered asked IsSeenSelectedOutput (λ fault. FailsProgram asked parts fault × SeesRefusal first now IsSeenSelectedOutput fault)

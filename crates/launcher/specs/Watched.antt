@@ -42,40 +42,6 @@ form_by details.Xml = Feed
 form_by details.List = Feed
 form_by details.Plan = Feed
 
--- some output of this kind
-pub record SomeOutput (Output : List ℕ → ExitStatus → Type 0) : Type 0 where
-  pub text : List ℕ
-  pub status : ExitStatus
-  pub output : Output text status
-
-module _ {L : Type 0} (saw : PlanParts → L → L → List Telling → Type 0) (Prints : List Event → TextParts → Times → List ℕ → ExitStatus → Type 0) (p : PlanParts) (first now : L) (times : Times) where
-  -- whoever watches has seen the very history of which this is printed with these times, each event with its text
-  pub record HasSeenPrinted (text : List ℕ) (status : ExitStatus) : Type 0 where
-    pub history : List Event
-    pub texts : TextParts
-    pub prints : Prints history texts times text status
-    pub seen : HasSeenMore saw p (tellings_of texts history) first now
-
-  -- of a run whoever watches has seen the history that is printed; of one that was not begun nothing; and where there is no output, since
-  -- memory was wanting behind it, the history that would have been printed
-  abbrev pub Watches : Result Output LaunchFault → Type 0
-  Watches (Ok report) = HasSeenPrinted (string_bytes report.text) report.status
-  Watches (Err fault) = (now ≡ first) ⊎ ((fault ≡ NoMemory) × SomeOutput HasSeenPrinted)
-
-  -- of a plan that may be run whoever watches has seen that; of another nothing
-  abbrev pub WatchesBy : Bool → Result Output LaunchFault → Type 0
-  WatchesBy true result = Watches result
-  WatchesBy false result = now ≡ first
-
-  -- whoever watches has seen the history of which this is printed, or, where nothing is run, nothing
-  abbrev pub SeesTextBy : Bool → List ℕ → ExitStatus → Type 0
-  SeesTextBy true text status = HasSeenPrinted text status
-  SeesTextBy false text status = now ≡ first
-
--- of a refusal nothing was seen; but where memory was wanting behind a run, all that would have been printed
-abbrev pub SeesRefusal : {L : Type 0} → (first now : L) → (Output : List ℕ → ExitStatus → Type 0) → LaunchFault → Type 0
-SeesRefusal first now Output fault = (now ≡ first) ⊎ ((fault ≡ NoMemory) × SomeOutput Output)
-
 -- lines of events are asked for, and a run on threads: so they are printed while it goes on
 abbrev pub HasLiveFeed : Asked → Type 0
 HasLiveFeed asked = (prints_live asked.details ≡ true) × (asked.replay ≡ None) × (asked.drive ≡ None)
@@ -125,8 +91,3 @@ IsBrokenOff asked Output outlet old new sent = ((outlet ≢ Failed) × (sent ≡
 -- there was no memory, or no thread could be started
 abbrev pub LacksMeans : LaunchFault → Type 0
 LacksMeans fault = (fault ≡ NoMemory) ⊎ (fault ≡ NoWorker)
-
--- where a plan may be run there was no memory, or no thread could be started; else there was no memory
-abbrev pub LacksBy : Bool → LaunchFault → Type 0
-LacksBy true fault = LacksMeans fault
-LacksBy false fault = fault ≡ NoMemory

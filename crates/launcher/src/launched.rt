@@ -4,7 +4,7 @@ ghost use Rattle.std.specs.Prelude.{◌≡◌, ◌≤◌, ℕ, List, Option, opt
 ghost use Rattle.descriptor.specs.Nodes.{IsTree};
 ghost use Rattle.job_times.specs.Timings.{times_of};
 ghost use Rattle.launch_options.specs.Asked.{asked_by};
-ghost use Rattle.launcher.specs.Launches.{Fits, IsLaunched, IsPrintedTo, IsSentSo};
+ghost use Rattle.launcher.specs.Launches.{Fits, IsLaunched, IsPrintedTo, IsSentSo, Sees};
 ghost use Rattle.launcher.specs.Programs.{IsPrintedOf};
 ghost use Rattle.launcher.specs.Watched.{form_by, outlet_by};
 ghost use Rattle.run_outputs.specs.WarningTexts.{head_of};
@@ -14,8 +14,8 @@ ghost use Rattle.table_contents.specs.Prepared.{HasAllJobs};
 ghost use Rattle.worker_pool.specs.Premises.{JobsMayAnswer};
 ghost use Rattle.worker_pool.specs.Reports.{run_of};
 
-use crate::report::{launch, printed};
-use crate::run::{broken_off, form_for, outlet_for};
+use crate::feeds::{broken_off, form_for, outlet_for};
+use crate::run::{launch, printed};
 use crate::timed_place::TimedPlace;
 use config_params::Settings;
 use job_times::{RunTimes, Stopwatch};
@@ -42,7 +42,7 @@ pub struct Launched<B> {
 }
 
 /// Prints what is left of what is printed of a run that this feed was shown.
-fn print_rest<B: Job, W: Write, V: Observer, S: Stopwatch>(
+pub(crate) fn print_rest<B: Job, W: Write, V: Observer, S: Stopwatch>(
     alloc: Global,
     options: &Options,
     settings: &Settings,
@@ -74,7 +74,7 @@ fn print_rest<B: Job, W: Write, V: Observer, S: Stopwatch>(
 
 /// Runs these jobs on a plan by the settings' workers, which is shown to this feed and to who watches beside it, prints
 /// what is left, and hands the run out.
-fn launch_shown<
+pub(crate) fn launch_shown<
     B: Job + Send,
     K: Place<B> + Send,
     T: Threads + Wait + Sync,
@@ -108,10 +108,10 @@ fn launch_shown<
     ensures same { live.new.feed.writer.ghost_name ≡ live.old.feed.writer.ghost_name }
     ensures same_timings { live.new.feed.timings.ghost_name ≡ live.old.feed.timings.ghost_name }
     ensures same_observer { live.new.observer.ghost_name ≡ live.old.observer.ghost_name }
-    ensures launched { IsLaunched B.answers B.gives B.says (option_map (λ a. a.now) known.entry) V.saw
-        live.old.observer.now live.new.observer.now (times_of live.new.feed.timings.now) (asked_by options.now)
-        settings.now plan jobs.items (W.contents live.old.feed.writer.now) (W.contents live.new.feed.writer.now)
-        result.ran result.answer }
+    ensures launched { IsLaunched B.answers B.gives B.says (option_map (λ a. a.now) known.entry)
+        (times_of live.new.feed.timings.now) (asked_by options.now) settings.now plan jobs.items
+        (W.contents live.old.feed.writer.now) (W.contents live.new.feed.writer.now) result.ran result.answer }
+    ensures seen { Sees V.saw live.old.observer.now live.new.observer.now result.ran }
 {
     let workers = settings.workers;
     let ring = options.ring;
@@ -163,9 +163,10 @@ pub fn launch_to<
     requires jobs { JobsMayAnswer B.answers (run_of plan settings.now.workers options.now.ring jobs.items) }
     requires all { HasAllJobs plan jobs.items }
     requires head { head.now ≡ head_of options.now.details settings.now.warnings }
-    ensures launched { IsLaunched B.answers B.gives B.says (option_map (λ a. a.now) known.entry) V.saw observer.old
-        observer.new (times_of times.new.timings) (asked_by options.now) settings.now plan jobs.items
-        (W.contents writer.old) (W.contents writer.new) result.ran result.answer }
+    ensures launched { IsLaunched B.answers B.gives B.says (option_map (λ a. a.now) known.entry)
+        (times_of times.new.timings) (asked_by options.now) settings.now plan jobs.items (W.contents writer.old)
+        (W.contents writer.new) result.ran result.answer }
+    ensures seen { Sees V.saw observer.old observer.new result.ran }
 {
     let form = form_for(options.details);
     let outlet = outlet_for(options);

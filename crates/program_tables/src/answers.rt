@@ -9,6 +9,7 @@ use crate::texts::{RowFiles, Texts};
 use command_line::{Ending, run_main, run_words};
 use example_tests::{FailuresByClass, run_semver_tests};
 use harness::BuildFault;
+use launcher::{LaunchSource, ScriptedJob};
 use std::alloc::{AllocError, Global};
 use std::sync::Wait;
 use std::thread::Threads;
@@ -124,7 +125,9 @@ fn push_run<T: Threads + Wait + Sync>(
         &mut RowFiles { texts },
         &texts.facts(),
         is_terminal,
+        LaunchSource::<ScriptedJob>::Text,
         &mut suite,
+        &mut (),
         answers,
         errors,
         &mut files,
@@ -209,7 +212,9 @@ fn has_second<T: Threads + Wait + Sync>(
             &mut RowFiles { texts },
             &texts.facts(),
             false,
+            LaunchSource::<ScriptedJob>::Text,
             &mut &*suite,
+            &mut (),
             &mut feed,
             &mut errors,
             files,

@@ -1,3 +1,2 @@
--- What is done with the files of reports, and what is recorded.
+-- What is done with the files of reports.
 pub mod Filing
-pub mod Recordings

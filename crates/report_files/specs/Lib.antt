@@ -2,7 +2,6 @@
 pub mod Besides
 pub mod Deeds
 pub mod FiledReports
-pub mod Recordings
 pub mod ReportTexts
 pub mod Reports
 pub mod SlowestTests

@@ -3,12 +3,9 @@ use Rattle.std.specs.Prelude.{◌≡◌, ◌<◌, ℕ, List, [], length, take, O
 use Rattle.std.specs.Io.KnownBytes.{Appends}
 use Rattle.launch_options.specs.declared.fault.CutCause.TheVariants.{Writer, Memory}
 use Rattle.job_times.specs.Timings.{Times}
-use Rattle.listeners.specs.Listeners.{EachPlace}
 use Rattle.run_results.specs.declared.theme.Theme.{Theme}
 use Rattle.report_files.specs.ReportTexts.{report_of}
 use Rattle.report_files.specs.Told.{ToldParts}
-use Rattle.report_files.specs.declared.recording.Recorded.{Recorded}
-use Rattle.report_files.specs.declared.recording.Recorded.TheVariants as recordings
 use Rattle.report_files.specs.declared.report.Outcome.{Outcome}
 use Rattle.report_files.specs.declared.report.Outcome.TheVariants.{Waiting, Whole, Cut}
 use Rattle.report_files.specs.declared.report.Report.{Report}
@@ -21,20 +18,8 @@ StandsBehind Whole old new text = Appends old new text
 StandsBehind (Cut Writer) old new text = (sent : ℕ) × (sent < length text) × Appends old new (take sent text)
 StandsBehind (Cut Memory) old new text = Appends old new []
 
--- there was no memory for a report, and its writer was left alone
-pub record IsLacking {F : Type 0} (old new : Report F) : Type 0 where
-  pub form : new.form ≡ old.form
-  pub file : new.file ≡ old.file
-  pub outcome : new.outcome ≡ Cut Memory
-
 module _ {F : Type 0} (contents : F → Option (List ℕ)) (theme : Theme) where
   -- a report is written of this run with these times, in its form
   pub record IsReported (told : ToldParts) (times : Times) (old new : Report F) : Type 0 where
     pub form : new.form ≡ old.form
     pub stands : StandsBehind new.outcome (contents old.file) (contents new.file) (report_of old.form theme told times)
-
-  -- each report is written of what was recorded, with these times; and if not all was, there was no memory for any
-  abbrev pub IsRecordedIn : Times → Recorded → List (Report F) → List (Report F) → Type 0
-  IsRecordedIn times recordings.Nothing old new = EachPlace IsLacking old new
-  IsRecordedIn times (recordings.Told told) old new = EachPlace (IsReported told times) old new
-  IsRecordedIn times recordings.Lacking old new = EachPlace IsLacking old new

@@ -1,6 +1,5 @@
 -- What contracts see of a run that was told.
-use Rattle.std.specs.Prelude.{◌≡◌, List, length}
-use Rattle.descriptor.specs.Nodes.{size}
+use Rattle.std.specs.Prelude.{List}
 use Rattle.plan_events.specs.declared.event.Event.{Event}
 use Rattle.plan_events.specs.Texts.{TextParts}
 use Rattle.resource_locks.specs.Plans.{PlanParts}
@@ -10,7 +9,3 @@ pub record ToldParts : Type 0 where
   pub plan : PlanParts
   pub events : List Event
   pub texts : TextParts
-
--- there is a place for the text of each node
-abbrev pub HasPlaces : PlanParts → TextParts → Type 0
-HasPlaces plan texts = length texts.notes ≡ size plan.tree

@@ -1,6 +1,6 @@
 //! How the files of reports are opened.
 
-ghost use Rattle.std.specs.Prelude.{◌≡◌, ◌<◌, ◌≤◌, ◌+◌, ◌∷◌, [], length, take, map, IfErr, IfOk, IsFalse, IsTrue};
+ghost use Rattle.std.specs.Prelude.{◌≡◌, ◌≢◌, ◌<◌, ◌≤◌, ◌+◌, ◌∷◌, [], length, take, map, IfErr, IfOk, IsFalse, IsTrue};
 ghost use Rattle.std.specs.Prelude.{vec_len, vec_capacity};
 ghost use Rattle.launch_options.specs.ReportTexts.{parts_of};
 ghost use Rattle.report_files.specs.Deeds.{Does};
@@ -61,7 +61,7 @@ fn open_each<K: ReportFiles>(
 
 /// The reports that are asked for, each with an empty file. If one cannot be opened (107) those before it are
 /// given up.
-pub fn open_all<K: ReportFiles>(
+fn open_all<K: ReportFiles>(
     alloc: Global,
     files: &mut K,
     wanted: &[ReportAsked<'_>],
@@ -78,4 +78,23 @@ pub fn open_all<K: ReportFiles>(
     }
     end_all(files, wanted, reports.as_slice());
     Err(LaunchFault::BadReport(reports.len() + 1))
+}
+
+/// The files of these reports, as `open_all` opens them. Where none is asked for that cannot fail, and no file is touched.
+pub fn open_wanted<K: ReportFiles>(
+    alloc: Global,
+    files: &mut K,
+    wanted: &[ReportAsked<'_>],
+) -> Result<Vec<Report<K::File>>, LaunchFault>
+    ensures opened { IfOk result (λ reports. AreOpened K.File.contents reports.items (map parts_of wanted.now)) }
+    ensures all { IfOk result (λ reports. length reports.items ≡ length wanted.now) }
+    ensures did { IfOk result (λ _. Does (K.deeds files.old) (K.deeds files.new)
+        (openings (map parts_of wanted.now))) }
+    ensures refused { IfErr result (IsUnopened (map parts_of wanted.now) (K.deeds files.old) (K.deeds files.new)) }
+    ensures some { IfErr result (λ _. length wanted.now ≢ 0) }
+{
+    if wanted.is_empty() {
+        return Ok(Vec::new(alloc));
+    }
+    open_all(alloc, files, wanted)
 }

@@ -11,7 +11,6 @@ ghost use Rattle.run_outputs.specs.WarningTexts.{beginning};
 ghost use Rattle.report_files.specs.Reports.{IsReported};
 
 use crate::report::{Outcome, Report};
-use crate::report_text::tree_and_summary;
 use job_times::Timings;
 use junit_report::timed_junit_text;
 use launch_options::{CutCause, Details, Options};
@@ -29,6 +28,22 @@ fn run_summary(alloc: Global, plan: &Plan, events: &[Event]) -> Result<String, A
 {
     let results = Results::of(alloc, plan, events)?;
     results.summary_text(alloc)
+}
+
+/// The tree of these results, and the summary behind it.
+fn tree_and_summary(
+    alloc: Global,
+    theme: Theme,
+    results: &Results<'_>,
+    texts: &Texts,
+) -> Result<String, AllocError>
+    ensures { IfOk result (λ text. string_bytes text ≡ tree_of theme results.now.plan texts.now results.now.events
+        ++ summary_of (counts_of results.now.plan results.now.events)) }
+{
+    let mut text = results.tree_text(alloc, texts, theme)?;
+    let summary = results.summary_text(alloc)?;
+    text.push_str(summary.as_str())?;
+    Ok(text)
 }
 
 /// The tree of a run, and the summary behind it.

@@ -1,9 +1,8 @@
 //! Calls `launcher`: a suite in memory is run, and what is printed is appended to a vector.
 
-ghost use Rattle.std.specs.Prelude.{Some};
+ghost use Rattle.std.specs.Prelude.{List, Option, Some, ℕ};
 ghost use Rattle.launch_options.specs.Asked.{asked_by};
-ghost use Rattle.launcher.specs.Runs.{IsRun};
-ghost use Rattle.ready_runs.specs.Reading.{front_read};
+ghost use Rattle.launcher.specs.SuiteLaunches.{IsSuiteTextRun};
 
 use launcher::{ExitStatus, LaunchFault, Options, run_options};
 use std::alloc::Global;
@@ -18,8 +17,8 @@ pub fn run_text<T: Threads + Wait + Sync>(
     suite: &[u8],
     output: &mut Vec<u8>,
 ) -> Result<ExitStatus, LaunchFault>
-    ensures { IsRun (asked_by options.now) (front_read options.now.most_nodes suite.now) (Some output.old.items)
-        (Some output.new.items) result }
+    ensures { (left : Option (List ℕ)) × IsSuiteTextRun (asked_by options.now) (Some suite.now) left
+        (Some output.old.items) (Some output.new.items) result }
 {
     let mut left = suite;
     run_options(rt, alloc, options, &mut left, output)

@@ -1,11 +1,10 @@
 //! Calls `messages`: a suite in memory is run, and if the run is refused its message comes back.
 
-ghost use Rattle.std.specs.Prelude.{◌≡◌, Some, Err, IfErr};
+ghost use Rattle.std.specs.Prelude.{◌≡◌, List, Option, Some, Err, IfErr, ℕ};
 ghost use Rattle.launch_options.specs.Asked.{asked_by};
-ghost use Rattle.launcher.specs.Runs.{IsRun};
+ghost use Rattle.launcher.specs.SuiteLaunches.{IsSuiteTextRun};
 ghost use Rattle.launch_options.specs.declared.fault.LaunchFault.{LaunchFault as Fault};
 ghost use Rattle.messages.specs.Sentences.{sentence_of};
-ghost use Rattle.ready_runs.specs.Reading.{front_read};
 
 use crate::suite_output::run_text;
 use launcher::{ExitStatus, Given, Options};
@@ -25,8 +24,8 @@ pub fn run_or_say<T: Threads + Wait + Sync>(
     output: &mut Vec<u8>,
 ) -> Result<ExitStatus, Message>
     ensures said { IfErr result (λ message. (fault : Fault) × (message.sentence.now ≡ sentence_of fault)
-        × IsRun (asked_by options.now) (front_read options.now.most_nodes suite.now) (Some output.old.items)
-        (Some output.new.items) (Err fault)) }
+        × ((left : Option (List ℕ)) × IsSuiteTextRun (asked_by options.now) (Some suite.now) left (Some output.old.items)
+        (Some output.new.items) (Err fault))) }
 {
     match run_text(rt, alloc, options, suite, output) {
         Ok(status) => Ok(status),

@@ -1,5 +1,5 @@
 -- There was no memory for what is left to be printed.
-use Rattle.launcher.proofs.ShownRuns.{broken_print}
+use Rattle.launcher.proofs.Showing.{broken_print}
 use Rattle.launcher.proofs.launched.print_rest.Goals as goal
 
 pub returns-in-Err-clause-answer : goal.returns-in-Err-clause-answer

@@ -1,1 +1,0 @@
--- What is told of the parts of a run is printed of it.
