@@ -12,7 +12,7 @@ ghost use Rattle.launch_options.specs.Given.{maybe_behind};
 
 use arrayvec::ArrayString;
 use command_words::{Info, given_by, info_asked, message_of};
-use launcher::option_names::SELECT_UNIQUE_ID;
+use launcher::option_names::{CONFIG, SELECT_UNIQUE_ID, SYSTEM};
 use launcher::{AfterRun, Details, ExitStatus, LaunchFault, Options};
 use live::{Failures, failed_text};
 use messages::{Message, Subject, hints_of, hints_text, names_no_node};
@@ -272,6 +272,24 @@ fn says_more(options: &Options) -> bool {
     options.replay.is_none() && matches!(options.details, Details::Tree | Details::Summary)
 }
 
+/// Whether this argument may set a key of the configuration.
+fn may_set_key(word: &str) -> bool {
+    match word.strip_prefix("--") {
+        Some(name) => name.starts_with(CONFIG) || name.starts_with(SYSTEM),
+        None => false,
+    }
+}
+
+/// These arguments, if one of them may set a key of the configuration, and else none: of all others nothing is said.
+fn words_with_keys(words: &[String]) -> &[String] {
+    for word in words {
+        if may_set_key(word.as_str()) {
+            return words;
+        }
+    }
+    &[]
+}
+
 /// Says what of these arguments, which asked for these options, and of this suite has another effect than
 /// it seems to have, if something does.
 fn say_hints_of<E: Write>(
@@ -283,7 +301,8 @@ fn say_hints_of<E: Write>(
 )
     ensures { SaysHints E.contents errors.old errors.new }
 {
-    let Ok(given) = given_by(alloc, words) else {
+    // clap takes long to read them once more
+    let Ok(given) = given_by(alloc, words_with_keys(words)) else {
         return;
     };
     if let Ok(hints) = hints_of(alloc, &given, options, suite) {
