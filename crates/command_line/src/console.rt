@@ -10,7 +10,7 @@ ghost use Rattle.command_line.specs.Runs.{waiting_said};
 ghost use Rattle.command_line.specs.Sources.{source_remaining};
 
 use crate::closing::{Ending, close_run, close_with_failures, say_waiting};
-use crate::kept::{Kept, SuiteSource, nothing_kept};
+use crate::kept::{Kept, SuiteSource};
 use crate::meanwhile::launch_told;
 use command_words::{Launch, read_options};
 use launch_options::Options;
@@ -149,7 +149,7 @@ fn run_file<
         Ok(Some(bytes)) => {
             let mut kept = Kept::<R> {
                 source: SuiteSource::File(bytes.as_slice()),
-                bytes: nothing_kept(alloc),
+                bytes: Vec::new(alloc),
             };
             run_source(
                 rt,
@@ -233,7 +233,7 @@ pub(crate) fn conduct_suite<
         None => {
             let mut kept = Kept {
                 source: SuiteSource::Reader(reader),
-                bytes: nothing_kept(alloc),
+                bytes: Vec::new(alloc),
             };
             run_source(
                 rt,

@@ -2,7 +2,6 @@
 
 ghost use Rattle.command_line.specs.Sources.{source_remaining};
 
-use std::alloc::Global;
 use std::io::{self, Read};
 
 /// Where a suite is read from.
@@ -30,15 +29,6 @@ impl<R: Read> Read for SuiteSource<'_, R> {
 pub(crate) struct Kept<'r, R> {
     pub(crate) source: SuiteSource<'r, R>,
     pub(crate) bytes: Vec<u8>,
-}
-
-/// How many bytes there is room for at first: as many as a suite may have where no number of nodes was asked for.
-const FIRST_ROOM: usize = 1_048_576;
-
-/// Nothing yet, with room for a suite of the usual size, so that what is kept of it is not moved again; where there is no
-/// such room, or more is kept, it is made as it is needed.
-pub(crate) fn nothing_kept(alloc: Global) -> Vec<u8> {
-    Vec::with_capacity(alloc, FIRST_ROOM).unwrap_or_else(|_| Vec::new(alloc))
 }
 
 impl<R: Read> Read for Kept<'_, R> {
