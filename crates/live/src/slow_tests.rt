@@ -133,6 +133,9 @@ impl SlowTests {
     fn end(&mut self, node: NodeId)
         ensures { self.new.tests.items ≡ filter (λ t. not (node == t.node)) self.old.tests.items }
     {
+        if self.tests.is_empty() {
+            return;
+        }
         self.tests.retain(|test| node != test.node);
     }
 

@@ -6,6 +6,9 @@ use Rattle.live.proofs.slow_lines.SlowLines.name_next.Goals as goal
 pub returns-then-self : goal.returns-then-self
 returns-then-self g c = record { said = []; written = untouched g.E.Write.contents c.args.self.now c.args.self.now refl refl; taken = inl refl }
 
+pub returns-then-is_empty : goal.returns-then-is_empty
+returns-then-is_empty g c = record { said = []; written = untouched g.E.Write.contents c.args.self.now c.args.self.now refl refl; taken = inl refl }
+
 pub returns-in-Some : goal.returns-in-Some
 returns-in-Some g c =
     let named = c.in-Some.ensures.some in
