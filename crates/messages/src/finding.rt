@@ -148,7 +148,8 @@ fn has_no_engine(lines: &str) -> bool {
 
 /// Whether a hint may be about a line behind the first engine: one of its locks, or a return in it.
 fn has_locks_or_returns(lines: &str) -> bool {
-    lines.contains("lock=") || lines.contains('\r')
+    // mostly there is no equals sign, which is found sooner than a word
+    lines.contains('=') && lines.contains("lock=") || lines.contains('\r')
 }
 
 /// Whether the suite of these bytes, which is read, names no node.
