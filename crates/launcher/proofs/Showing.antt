@@ -1,6 +1,6 @@
 -- What a feed has printed of the run that it was shown is a front of what is printed of it.
 use Rattle.std.proofs.Common.{◌≡◌, ◌≢◌, ◌∙◌, ℕ, ◌<◌, Bool, true, false, List, [], ◌++◌, length, take, Option, Some, None, Result, Err, refl, sym, ap, ap₂, subst, append-nil, inl, inr, arith}
-use Rattle.std.specs.Prelude.{◌⊎◌, if◌then◌else◌}
+use Rattle.std.specs.Prelude.{◌⊎◌, if◌then◌else◌, string_bytes}
 use Rattle.std.specs.Io.KnownBytes.{Appends, Keeps}
 use Rattle.std.proofs.KnownBytes.{Appends-nil}
 use Rattle.std.proofs.lemmas.Bool.{true≢false}
@@ -90,11 +90,11 @@ not_failed Closed is failed = cc
 not_failed Failed is failed = elim is [ inl q ↦ cc | inr q ↦ cc ]
 
 -- at first nothing was printed
-at_first_none : (o : Outlet) → (o ≡ Waiting) ⊎ (o ≡ Closed) → (sent : ℕ) → sent ≡ 0 → (output : List ℕ) → IsSoFar o sent output []
-at_first_none Waiting is sent none output = (none, refl)
-at_first_none Open is sent none output = elim is [ inl q ↦ cc | inr q ↦ cc ]
-at_first_none Closed is sent none output = inl none
-at_first_none Failed is sent none output = elim is [ inl q ↦ cc | inr q ↦ cc ]
+at_first_none : (o : Outlet) → (o ≡ Waiting) ⊎ (o ≡ Closed) → (sent : ℕ) → sent ≡ 0 → (pending output : List ℕ) → IsSoFar o sent pending output []
+at_first_none Waiting is sent none pending output = (none, refl)
+at_first_none Open is sent none pending output = elim is [ inl q ↦ cc | inr q ↦ cc ]
+at_first_none Closed is sent none pending output = inl none
+at_first_none Failed is sent none pending output = elim is [ inl q ↦ cc | inr q ↦ cc ]
 
 module _ {W V S : Type 0} (contents : W → Option (List ℕ)) (saw : PlanParts → V → V → List Telling → Type 0) (known : Option (List (ℕ × Reply))) (asked : Asked) (settings : Settings) (p : PlanParts) (history : List Event) (texts : TextParts) (ends : EndsInPlan history) (at_first both : WatchedFeed W V S)
     (head : at_first.feed.head.now ≡ head_of asked.details settings.warnings) (form : at_first.feed.form ≡ form_by asked.details) (outlet : at_first.feed.outlet ≡ outlet_by asked.details asked.replay asked.drive) (timed : at_first.feed.timed ≡ asked.times) (none : at_first.feed.sent ≡ 0)
@@ -129,7 +129,7 @@ module _ {W V S : Type 0} (contents : W → Option (List ℕ)) (saw : PlanParts 
     same_timings = refl;
     noted = All-nil (IsNotedIn (shown_times first).took);
     stopped = λ shut. record { outlet = refl; sent = refl; writer = refl };
-    so_far = λ live. at_first_none first.outlet either first.sent none (output_of first.form first.head.now p (shown_times first) []);
+    so_far = λ live. at_first_none first.outlet either first.sent none (string_bytes first.pending.now) (output_of first.form first.head.now p (shown_times first) []);
     printed = λ live. subst (λ (n : ℕ). Appends was was (take n (output_of first.form first.head.now p (shown_times first) []))) (sym none) (Appends-nil was);
   }
 

@@ -173,7 +173,11 @@ pub fn launch_to<
     let stopwatch = times.stopwatch;
     let timings = &mut times.timings;
     let timed = options.times;
-    let feed = LiveFeed::new(alloc, writer, head, form, outlet, timings, stopwatch, timed);
+    let mut lines = String::new(alloc);
+    let pending = &mut lines;
+    let feed = LiveFeed::new(
+        alloc, writer, head, form, outlet, pending, timings, stopwatch, timed,
+    );
     let mut live = WatchedFeed { feed, observer };
     launch_shown(
         rt, alloc, options, settings, plan, jobs, known, places, &mut live, stopwatch,

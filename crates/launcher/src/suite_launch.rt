@@ -190,7 +190,11 @@ fn run_said<B: Job, T: Threads + Wait + Sync, W: Write, V: Observer, S: Stopwatc
     let stopwatch = times.stopwatch;
     let timings = &mut times.timings;
     let timed = options.times;
-    let feed = LiveFeed::new(alloc, writer, head, form, outlet, timings, stopwatch, timed);
+    let mut lines = String::new(alloc);
+    let pending = &mut lines;
+    let feed = LiveFeed::new(
+        alloc, writer, head, form, outlet, pending, timings, stopwatch, timed,
+    );
     let mut live = WatchedFeed { feed, observer };
     launch_said(
         rt, alloc, options, settings, plan, answers, spins, &mut live, stopwatch,

@@ -1,5 +1,5 @@
 -- Of a run that is over there was printed a front of the whole output, and not all.
-use Rattle.std.proofs.Common.{◌≡◌, ◌≢◌, ◌∙◌, ℕ, zero, suc, ◌<◌, ◌≤◌, ◌⊎◌, inl, inr, Bool, true, false, ◌||◌, ◌&&◌, ◌==◌, List, [], ◌∷◌, ◌++◌, length, take, Option, Some, slice_get, refl, sym, ap, ap₂, subst, arith, append_assoc, length-append}
+use Rattle.std.proofs.Common.{◌≡◌, ◌≢◌, ◌∙◌, ℕ, zero, suc, ◌<◌, ◌≤◌, ◌⊎◌, inl, inr, Bool, true, false, ◌||◌, ◌&&◌, ◌==◌, List, [], ◌∷◌, ◌++◌, length, take, Option, string_bytes, Some, slice_get, refl, sym, ap, ap₂, subst, arith, append_assoc, length-append}
 use Rattle.std.specs.List.{flat_map}
 use Rattle.std.specs.Io.KnownBytes.{Appends}
 use Rattle.std.proofs.lemmas.List.{take-append-le}
@@ -45,14 +45,14 @@ closed_whole : Closed ≢ Failed
 closed_whole q = cc
 
 module _ (texts : TextParts) (h : List Event) (ends : EndsInPlan h) where
-  short : (o : Outlet) (sent : ℕ) (output : List ℕ) → IsSoFar o sent output (tellings_of texts h) → IsShort o sent output
-  short Waiting sent output so = inl (waiting_whole, so.0)
-  short Open sent output so = absurd (different (sym so.1 ∙ over texts h ends))
+  short : (o : Outlet) (sent : ℕ) (pending output : List ℕ) → IsSoFar o sent pending output (tellings_of texts h) → IsShort o sent output
+  short Waiting sent pending output so = inl (waiting_whole, so.0)
+  short Open sent pending output so = absurd (different (sym so.1 ∙ over texts h ends))
     where
       different : false ≡ true → ⊥
       different q = cc
-  short Closed sent output so = elim so [ inl none ↦ inl (closed_whole, none) | inr few ↦ inr few ]
-  short Failed sent output so = inr so
+  short Closed sent pending output so = elim so [ inl none ↦ inl (closed_whole, none) | inr few ↦ inr few ]
+  short Failed sent pending output so = inr so
 
   module _ {W S : Type 0} (contents : W → Option (List ℕ)) (p : PlanParts) (first now : LiveFeed W S) (is : IsPrinted contents p first now (tellings_of texts h)) (live : is_stopped first.outlet ≡ false) (rest text : List ℕ)
       (whole : text ≡ first.head.now ++ (lines_of first.form p texts (shown_times now) h ++ rest)) where
@@ -69,13 +69,13 @@ module _ (texts : TextParts) (h : List Event) (ends : EndsInPlan h) where
     longer = omega (arith, ap length begins, length-append output rest)
 
     so_short : IsShort now.outlet now.sent output
-    so_short = short now.outlet now.sent output (is.so_far live)
+    so_short = short now.outlet now.sent (string_bytes now.pending.now) output (is.so_far live)
 
     low : now.sent ≤ length output
     low = elim so_short [ inl none ↦ omega (arith, none.1) | inr few ↦ omega (arith, few) ]
 
     not_all : now.outlet ≡ Failed → now.sent < length text
-    not_all failed = (let few = subst (λ (o : Outlet). IsSoFar o now.sent output (tellings_of texts h)) failed (is.so_far live) in omega (arith, few, longer))
+    not_all failed = (let few = subst (λ (o : Outlet). IsSoFar o now.sent (string_bytes now.pending.now) output (tellings_of texts h)) failed (is.so_far live) in omega (arith, few, longer))
 
     pub front : IsFront (contents first.writer.now) (contents now.writer.now) now.outlet now.sent text
     front = record {

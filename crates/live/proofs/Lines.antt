@@ -44,14 +44,14 @@ object_ending p e ending =
     (text_member (codes "type") (type_word (kind_of p.tree e.node)) (text_member (codes "id") (id_at p e.node) (text_member (codes "name") (name_at p.tree e.node) ending))))))) ++ codes "\n"
 
 module _ (p : PlanParts) (times : Times) where
-  line_is : (texts : TextParts) (e : Event) → telling_line Feed p times (telling texts e) ≡ event_line e (id_at p e.node) (text_or (text_at texts e.node))
+  pub line_is : (texts : TextParts) (e : Event) → telling_line Feed p times (telling texts e) ≡ event_line e (id_at p e.node) (text_or (text_at texts e.node))
   line_is texts e =
       ap (λ (shown : List ℕ). cond (e.node == 0)
       (codes "w" ++ decimal e.worker ++ codes " plan " ++ kind_word e.kind ++ codes "\n")
       (codes "w" ++ decimal e.worker ++ codes " " ++ kind_word e.kind ++ codes " " ++ id_at p e.node ++ shown ++ codes "\n"))
       (text_shown e.kind e.status (text_at texts e.node))
 
-  object_is : (texts : TextParts) (e : Event) → telling_line Json p times (telling texts e) ≡ written (event_json p e (text_or (text_at texts e.node)) (took_of times.took e.node)) ++ codes "\n"
+  pub object_is : (texts : TextParts) (e : Event) → telling_line Json p times (telling texts e) ≡ written (event_json p e (text_or (text_at texts e.node)) (took_of times.took e.node)) ++ codes "\n"
   object_is texts e = ap (λ (ending : Members). object_ending p e ending) (members_shown e.kind e.status (text_at texts e.node) (took_of times.took e.node))
 
   pub lines_are : (form : LineForm) (texts : TextParts) (es : List Event) → lines_of form p texts times es ≡ flat_map (telling_line form p times) (tellings_of texts es)

@@ -1,5 +1,5 @@
 -- What was told stays as it was told, where more is noted.
-use Rattle.std.proofs.Common.{◌≡◌, ◌∙◌, ℕ, ◌<◌, ◌&&◌, inl, inr, Bool, true, false, List, [], ◌∷◌, ◌++◌, length, take, get_or, Option, refl, sym, ap, ap₂, subst, arith}
+use Rattle.std.proofs.Common.{◌≡◌, ◌∙◌, ℕ, ◌<◌, ◌&&◌, inl, inr, Bool, true, false, List, [], ◌∷◌, ◌++◌, length, take, get_or, Option, string_bytes, refl, sym, ap, ap₂, subst, arith}
 use Rattle.std.specs.List.{All, flat_map}
 use Rattle.std.specs.Io.KnownBytes.{Appends}
 use Rattle.std.proofs.lemmas.Bool.{cases_lt}
@@ -83,8 +83,9 @@ shown_by false true n old new is = record {
 }
 shown_by false false n old new is = refl
 
-so_far_still : (o q : Outlet) (sent count : ℕ) (output text : List ℕ) (ts : List Telling) → q ≡ o → count ≡ sent → text ≡ output → IsSoFar o sent output ts → IsSoFar q count text ts
-so_far_still o q sent count output text ts outlet same is so = subst (λ (r : Outlet). IsSoFar r count text ts) (sym outlet) (subst (λ (k : ℕ). IsSoFar o k text ts) (sym same) (subst (λ (xs : List ℕ). IsSoFar o sent xs ts) (sym is) so))
+so_far_still : (o q : Outlet) (sent count : ℕ) (waiting pending output text : List ℕ) (ts : List Telling) → q ≡ o → count ≡ sent → pending ≡ waiting → text ≡ output → IsSoFar o sent waiting output ts → IsSoFar q count pending text ts
+so_far_still o q sent count waiting pending output text ts outlet same still is so =
+    subst (λ (r : Outlet). IsSoFar r count pending text ts) (sym outlet) (subst (λ (k : ℕ). IsSoFar o k pending text ts) (sym same) (subst (λ (xs : List ℕ). IsSoFar o sent xs text ts) (sym still) (subst (λ (xs : List ℕ). IsSoFar o sent waiting xs ts) (sym is) so)))
 
 module _ {W S : Type 0} (contents : W → Option (List ℕ)) (p : PlanParts) (first : LiveFeed W S) where
   -- these events were printed, and of the next one it is noted what is to be told
@@ -93,7 +94,7 @@ module _ {W S : Type 0} (contents : W → Option (List ℕ)) (p : PlanParts) (fi
     pub noted : IsNotedIn (shown_times now).took t
 
   module _ (old now : LiveFeed W S) (before : List Telling) (t : Telling) (is : IsPrinted contents p first old before)
-      (writer : now.writer ≡ old.writer) (head : now.head ≡ old.head) (form : now.form ≡ old.form) (outlet : now.outlet ≡ old.outlet) (sent : now.sent ≡ old.sent) (timed : now.timed ≡ old.timed) (same_timings : now.timings.ghost_name ≡ old.timings.ghost_name)
+      (writer : now.writer ≡ old.writer) (head : now.head ≡ old.head) (form : now.form ≡ old.form) (outlet : now.outlet ≡ old.outlet) (sent : now.sent ≡ old.sent) (pending : now.pending ≡ old.pending) (timed : now.timed ≡ old.timed) (same_timings : now.timings.ghost_name ≡ old.timings.ghost_name)
       (noted : NotesIf (old.timed && is_finish t.event.kind) t.event.node old.timings.now.took.items now.timings.now.took.items) where
     shown : NotesIf (is_finish t.event.kind) t.event.node (shown_times old).took (shown_times now).took
     shown =
@@ -116,7 +117,7 @@ module _ {W S : Type 0} (contents : W → Option (List ℕ)) (p : PlanParts) (fi
       same_timings = same_timings ∙ is.same_timings;
       noted = All-weaker (IsNotedIn (shown_times old).took) (IsNotedIn (shown_times now).took) (still_noted t.event.node (shown_times old).took (shown_times now).took (is_finish t.event.kind) shown) before is.noted;
       stopped = λ shut. (let so = is.stopped shut in record { outlet = outlet ∙ so.outlet; sent = sent ∙ so.sent; writer = writer_stays ∙ so.writer });
-      so_far = λ live. so_far_still old.outlet now.outlet old.sent now.sent _ _ before outlet sent output_stays (is.so_far live);
+      so_far = λ live. so_far_still old.outlet now.outlet old.sent now.sent (string_bytes old.pending.now) (string_bytes now.pending.now) _ _ before outlet sent (ap (λ waits. string_bytes waits.now) pending) output_stays (is.so_far live);
       printed = λ live.
           subst (λ (w : W). Appends (contents first.writer.now) (contents w) (take now.sent (output_of first.form first.head.now p (shown_times now) before))) (sym writer_stays)
           (subst (Appends (contents first.writer.now) (contents old.writer.now)) (ap₂ (λ (n : ℕ) (xs : List ℕ). take n xs) (sym sent) (sym output_stays)) (is.printed live));

@@ -1,5 +1,5 @@
 -- What a writer was given of the lines of a run that goes on.
-use Rattle.std.specs.Prelude.{◌≡◌, ℕ, ◌+◌, ◌<◌, ◌≤◌, ◌⊎◌, ◌||◌, Bool, true, false, List, [], ◌∷◌, ◌++◌, codes, length, take, Option}
+use Rattle.std.specs.Prelude.{◌≡◌, ℕ, ◌+◌, ◌<◌, ◌≤◌, ◌⊎◌, ◌||◌, Bool, true, false, List, [], ◌∷◌, ◌++◌, codes, length, take, Option, string_bytes}
 use Rattle.std.specs.List.{All, flat_map}
 use Rattle.std.specs.Io.KnownBytes.{Appends}
 use Rattle.plan_events.specs.declared.event.Event.{Event}
@@ -35,20 +35,27 @@ abbrev pub has_end : List Telling → Bool
 has_end [] = false
 has_end (t ∷ ts) = ends_plan t.event || has_end ts
 
--- what stands in front of the line that is printed next
-abbrev pub front_of : Outlet → List ℕ → List ℕ
-front_of Waiting head = head
-front_of Open head = []
-front_of Closed head = []
-front_of Failed head = []
+-- what waits in front of the line that is printed next: in front of the first one the head alone
+abbrev pub front_of : Outlet → (head pending : List ℕ) → List ℕ
+front_of Waiting head pending = head
+front_of Open head pending = pending
+front_of Closed head pending = pending
+front_of Failed head pending = pending
 
--- How far the printing has come of this output, which is that of these events: nothing was printed, as nothing happened; all was, and
--- the plan has not finished; or, for good, the first so many bytes were, and not all unless nothing was. The plan's finish is never printed.
-abbrev pub IsSoFar : Outlet → ℕ → List ℕ → List Telling → Type 0
-IsSoFar Waiting sent output ts = (sent ≡ 0) × (ts ≡ [])
-IsSoFar Open sent output ts = (sent ≡ length output) × (has_end ts ≡ false)
-IsSoFar Closed sent output ts = (sent ≡ 0) ⊎ (sent < length output)
-IsSoFar Failed sent output ts = sent < length output
+-- what was sent, so many bytes, and what waits behind it are this output
+pub record AreBoth (sent : ℕ) (pending output : List ℕ) : Type 0 where
+  pub done : List ℕ
+  pub many : sent ≡ length done
+  pub both : output ≡ done ++ pending
+
+-- How far the printing has come of this output, which is that of these events: nothing was printed, as nothing happened; all was but what
+-- waits, and the plan has not finished; or, for good, the first so many bytes were, and not all unless nothing was. The plan's finish is
+-- never printed.
+abbrev pub IsSoFar : Outlet → ℕ → (pending output : List ℕ) → List Telling → Type 0
+IsSoFar Waiting sent pending output ts = (sent ≡ 0) × (ts ≡ [])
+IsSoFar Open sent pending output ts = AreBoth sent pending output × (has_end ts ≡ false)
+IsSoFar Closed sent pending output ts = (sent ≡ 0) ⊎ (sent < length output)
+IsSoFar Failed sent pending output ts = sent < length output
 
 -- whether nothing is printed any more before `finish`
 abbrev pub is_stopped : Outlet → Bool
@@ -88,15 +95,16 @@ pub record IsPrinted {W S : Type 0} (contents : W → Option (List ℕ)) (p : Pl
   pub same_timings : now.timings.ghost_name ≡ first.timings.ghost_name
   pub noted : All (IsNotedIn (shown_times now).took) ts
   pub stopped : is_stopped first.outlet ≡ true → StaysAs first now
-  pub so_far : is_stopped first.outlet ≡ false → IsSoFar now.outlet now.sent (output_of first.form first.head.now p (shown_times now) ts) ts
+  pub so_far : is_stopped first.outlet ≡ false → IsSoFar now.outlet now.sent (string_bytes now.pending.now) (output_of first.form first.head.now p (shown_times now) ts) ts
   pub printed : is_stopped first.outlet ≡ false → Appends (contents first.writer.now) (contents now.writer.now) (take now.sent (output_of first.form first.head.now p (shown_times now) ts))
 
--- What was done with bytes that were to be printed next: the writer took all, or none was handed to it, or it failed behind the first so many.
-abbrev pub IsHandedOn : Outlet → Option (List ℕ) → Option (List ℕ) → (was now : ℕ) → List ℕ → Type 0
-IsHandedOn Waiting old new was now bytes = ⊥
-IsHandedOn Open old new was now bytes = Appends old new bytes × (now ≡ was + length bytes)
-IsHandedOn Closed old new was now bytes = Appends old new [] × (now ≡ was)
-IsHandedOn Failed old new was now bytes = (n : ℕ) × (n < length bytes) × Appends old new (take n bytes) × (now ≡ was + n)
+-- What was done with bytes that waited, and what waits still: the writer took all, or none was handed to it, or it failed behind the first
+-- so many.
+abbrev pub IsHandedOn : Outlet → Option (List ℕ) → Option (List ℕ) → (was now : ℕ) → (bytes left : List ℕ) → Type 0
+IsHandedOn Waiting old new was now bytes left = ⊥
+IsHandedOn Open old new was now bytes left = Appends old new bytes × (now ≡ was + length bytes) × (left ≡ [])
+IsHandedOn Closed old new was now bytes left = Appends old new [] × (now ≡ was)
+IsHandedOn Failed old new was now bytes left = (n : ℕ) × (n < length bytes) × Appends old new (take n bytes) × (now ≡ was + n)
 
 -- The writer took the first so many bytes of the text, and not all if it failed.
 pub record IsFront (old new : Option (List ℕ)) (outlet : Outlet) (sent : ℕ) (text : List ℕ) : Type 0 where

@@ -4,6 +4,7 @@
 mod failed_lines;
 mod failure;
 mod failures;
+mod feed_lines;
 mod handing;
 mod line_form;
 mod live_feed;

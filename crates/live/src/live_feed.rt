@@ -1,20 +1,20 @@
-//! A feed that goes to a writer line by line, when its events are told.
+//! A feed that goes to a writer while its events are told.
 
-ghost use Rattle.std.specs.Prelude.{◌≡◌, ◌≤◌, ◌<◌, ◌&&◌, ◌++◌, [], ◌∷◌, ℕ, false, List, Option, IfOk, length, take, string_bytes};
+ghost use Rattle.std.specs.Prelude.{◌≡◌, ◌≤◌, ◌<◌, ◌&&◌, ◌++◌, ℕ, List, Option, OnOk, length, take, string_bytes};
 ghost use Rattle.std.specs.Io.KnownBytes.{Appends};
 ghost use Rattle.listeners.specs.Listeners.{telling};
 ghost use Rattle.run_results.specs.Sending.{SendsExactly};
-ghost use Rattle.live.specs.LiveFeeds.{NotesIf, front_of, is_stopped, lines_of, telling_line};
-ghost use Rattle.reports.specs.Json.{timed_json_of};
+ghost use Rattle.listeners.specs.Observing.{KeepsSight};
+ghost use Rattle.live.specs.LiveFeeds.{NotesIf, front_of, telling_line};
 ghost use Rattle.listeners.specs.Endings.{is_finish};
 
+use crate::feed_lines::{push_line, put_front};
 use crate::line_form::LineForm;
 use job_times::{Stopwatch, Timings};
 use listeners::{Observer, ends_plan, is_finish};
 use plan_events::{Event, Texts};
-use reports::{json_text, timed_json_text};
 use resource_locks::Plan;
-use run_results::{WriteFault, feed_text, print_to};
+use run_results::{WriteFault, print_to};
 use std::alloc::{AllocError, Global};
 use std::io::Write;
 
@@ -23,7 +23,7 @@ use std::io::Write;
 pub enum Outlet {
     /// Nothing happened yet.
     Waiting,
-    /// The line of each event is printed.
+    /// The line of each event is printed, or waits for the next look.
     Open,
     /// What is left is printed when the run is over.
     Closed,
@@ -31,9 +31,12 @@ pub enum Outlet {
     Failed,
 }
 
+/// So many bytes of lines wait at most until there is nothing to be told, but for the last line.
+const MOST_WAITING: usize = 16 * 1024;
+
 /// The lines of a run's events, on their way to a writer: the line of each event but the plan's
-/// finish is handed to the writer when the event is told. The rest is printed by `finish`, when all
-/// is known to go well. If it is to tell times, it notes that of each node whose finish it is told,
+/// finish is kept in a text that was lent, and all that wait there are handed to the writer at once when there is
+/// nothing to be told, or they are many. The rest is printed by `finish`, when all is known to go well. If it is to tell times, it notes that of each node whose finish it is told,
 /// once, whether or not something is printed still.
 #[derive(Drop)]
 pub struct LiveFeed<'w, 't, 's, W: Write, S: Stopwatch> {
@@ -43,6 +46,8 @@ pub struct LiveFeed<'w, 't, 's, W: Write, S: Stopwatch> {
     form: LineForm,
     outlet: Outlet,
     sent: usize,
+    // the lines behind what was sent
+    pending: &'t mut String,
     timings: &'t mut Timings,
     stopwatch: &'s S,
     // whether it tells how long nodes took
@@ -50,16 +55,18 @@ pub struct LiveFeed<'w, 't, 's, W: Write, S: Stopwatch> {
 }
 
 impl<'w, 't, 's, W: Write, S: Stopwatch> LiveFeed<'w, 't, 's, W, S> {
-    ghost use Rattle.live.specs.LiveFeeds.{IsHandedOn, shown_times};
+    ghost use Rattle.live.specs.LiveFeeds.{IsHandedOn, IsPrinted, shown_times};
 
     /// Lines of this form behind this text, of which nothing was printed. Closed at first, it prints
-    /// nothing before `finish`. If it is to tell times, it notes in this table what the stopwatch says.
+    /// nothing before `finish`. Lines wait in this text, which is emptied first. If it is to tell times, it notes in this
+    /// table what the stopwatch says.
     pub fn new(
         alloc: Global,
         writer: &'w mut W,
         head: &'w str,
         form: LineForm,
         outlet: Outlet,
+        pending: &'t mut String,
         timings: &'t mut Timings,
         stopwatch: &'s S,
         timed: bool,
@@ -81,6 +88,7 @@ impl<'w, 't, 's, W: Write, S: Stopwatch> LiveFeed<'w, 't, 's, W, S> {
             form,
             outlet,
             sent: 0,
+            pending,
             timings,
             stopwatch,
             timed,
@@ -115,6 +123,7 @@ impl<'w, 't, 's, W: Write, S: Stopwatch> LiveFeed<'w, 't, 's, W, S> {
         ensures form { self.new.form ≡ self.old.form }
         ensures outlet { self.new.outlet ≡ self.old.outlet }
         ensures sent { self.new.sent ≡ self.old.sent }
+        ensures pending { self.new.pending ≡ self.old.pending }
         ensures timed { self.new.timed ≡ self.old.timed }
         ensures same_timings { self.new.timings.ghost_name ≡ self.old.timings.ghost_name }
         ensures noted { NotesIf (self.old.timed && is_finish event.kind) event.node
@@ -126,71 +135,85 @@ impl<'w, 't, 's, W: Write, S: Stopwatch> LiveFeed<'w, 't, 's, W, S> {
         }
     }
 
-    /// The object of an event on a line, with the time of its node, if times are told and it is known.
-    fn object_of(&self, plan: &Plan, texts: &Texts, event: Event) -> Result<String, AllocError>
-        ensures { IfOk result (λ line. string_bytes line
-            ≡ timed_json_of plan.now texts.now (shown_times self.now).took (event ∷ [])) }
+    /// Puts the line of an event behind the lines that wait, the first one behind what stands in front.
+    fn add_line(&mut self, plan: &Plan, texts: &Texts, event: Event) -> Result<(), AllocError>
+        ensures writer { self.new.writer ≡ self.old.writer }
+        ensures head { self.new.head ≡ self.old.head }
+        ensures form { self.new.form ≡ self.old.form }
+        ensures sent { self.new.sent ≡ self.old.sent }
+        ensures timings { self.new.timings ≡ self.old.timings }
+        ensures timed { self.new.timed ≡ self.old.timed }
+        ensures open { OnOk result (self.new.outlet ≡ Outlet.Open) }
+        ensures line { OnOk result (string_bytes self.new.pending.now ≡ front_of self.old.outlet self.old.head.now
+            (string_bytes self.old.pending.now) ++ telling_line self.old.form plan.now (shown_times self.old)
+            (telling texts.now event)) }
     {
-        if self.timed {
-            timed_json_text(self.alloc, plan, &[event], texts, &*self.timings)
-        } else {
-            json_text(self.alloc, plan, &[event], texts)
-        }
+        put_front(&mut *self.pending, self.outlet, self.head)?;
+        push_line(
+            self.alloc,
+            &mut *self.pending,
+            self.form,
+            plan,
+            texts,
+            self.timed,
+            &*self.timings,
+            event,
+        )?;
+        self.outlet = Outlet::Open;
+        Ok(())
     }
 
-    /// The line of an event.
-    fn line_of(&self, plan: &Plan, texts: &Texts, event: Event) -> Result<String, AllocError>
-        ensures { IfOk result (λ line. string_bytes line
-            ≡ lines_of self.now.form plan.now texts.now (shown_times self.now) (event ∷ [])) }
-    {
-        match self.form {
-            LineForm::Feed => feed_text(self.alloc, plan, &[event], texts),
-            LineForm::Json => self.object_of(plan, texts, event),
-        }
-    }
-
-    /// The line of an event, behind what stands in front of the first.
-    fn next_lines(&self, plan: &Plan, texts: &Texts, event: Event) -> Result<String, AllocError>
-        ensures { IfOk result (λ text. string_bytes text ≡ front_of self.now.outlet self.now.head.now
-            ++ telling_line self.now.form plan.now (shown_times self.now) (telling texts.now event)) }
-    {
-        let line = self.line_of(plan, texts, event)?;
-        match self.outlet {
-            Outlet::Waiting => {
-                let mut text = String::from_str(self.alloc, self.head)?;
-                text.push_str(line.as_str())?;
-                Ok(text)
-            }
-            Outlet::Open | Outlet::Closed | Outlet::Failed => Ok(line),
-        }
-    }
-
-    /// Hands these bytes to the writer.
-    fn hand_on(&mut self, bytes: &[u8])
-        requires going { is_stopped self.old.outlet ≡ false }
+    /// Hands the lines that wait to the writer.
+    fn hand_on(&mut self)
+        requires going { self.old.outlet ≡ Outlet.Open }
+        requires some { 0 < length (string_bytes self.old.pending.now) }
         ensures same { self.new.writer.ghost_name ≡ self.old.writer.ghost_name }
         ensures head { self.new.head ≡ self.old.head }
         ensures form { self.new.form ≡ self.old.form }
         ensures timings { self.new.timings ≡ self.old.timings }
         ensures timed { self.new.timed ≡ self.old.timed }
         ensures handed { IsHandedOn self.new.outlet (W.contents self.old.writer.now) (W.contents self.new.writer.now)
-            self.old.sent self.new.sent bytes.now }
+            self.old.sent self.new.sent (string_bytes self.old.pending.now) (string_bytes self.new.pending.now) }
     {
         // More bytes than can be counted are not printed before the end.
-        if self.sent.checked_add(bytes.len()).is_none() {
+        if self.sent.checked_add(self.pending.len()).is_none() {
             self.outlet = Outlet::Closed;
             return;
         }
-        match print_to(&mut *self.writer, bytes) {
+        match print_to(&mut *self.writer, self.pending.as_bytes()) {
             Ok(()) => {
-                self.sent += bytes.len();
-                self.outlet = Outlet::Open;
+                self.sent += self.pending.len();
+                self.pending.clear();
             }
             Err(fault) => {
                 self.sent += fault.sent;
                 self.outlet = Outlet::Failed;
             }
         }
+    }
+
+    /// Hands on the lines that wait, if there are any and the printing goes on.
+    fn send(&mut self)
+        ensures { KeepsSight (IsPrinted W.contents) self.old self.new }
+    {
+        match self.outlet {
+            Outlet::Waiting | Outlet::Closed | Outlet::Failed => return,
+            Outlet::Open => {}
+        }
+        if self.pending.as_bytes().is_empty() {
+            return;
+        }
+        self.hand_on();
+    }
+
+    /// Hands on the lines that wait, if these are many bytes.
+    fn send_many(&mut self)
+        ensures { KeepsSight (IsPrinted W.contents) self.old self.new }
+    {
+        if self.pending.len() < MOST_WAITING {
+            return;
+        }
+        self.send();
     }
 
     /// Prints what is left of the whole output, which begins with what was printed. A writer that failed is left alone.
@@ -231,11 +254,13 @@ impl<'w, 't, 's, W: Write, S: Stopwatch> Observer for LiveFeed<'w, 't, 's, W, S>
             self.outlet = Outlet::Closed;
             return;
         }
-        match self.next_lines(plan, texts, *event) {
-            Ok(text) => self.hand_on(text.as_bytes()),
+        match self.add_line(plan, texts, *event) {
+            Ok(()) => self.send_many(),
             Err(AllocError) => self.outlet = Outlet::Closed,
         }
     }
 
-    fn idle(&mut self) {}
+    fn idle(&mut self) {
+        self.send();
+    }
 }

@@ -1,12 +1,12 @@
 -- The characters of a text, each as it stands in a string, are the text as the kit escapes it.
-use Rattle.std.proofs.Common.{◌≡◌, ℕ, zero, suc, ◌+◌, ◌/◌, ◌<◌, ◌≤◌, Bool, true, false, cond, nat_lt, List, [], ◌∷◌, ◌++◌, IsUtf8, inl, inr, refl, sym, ap, ◌∙◌, subst, arith, append_assoc}
-use Rattle.std.proofs.lemmas.Bool.{cases_eq, cases_lt, ne_eqb, le-ltb}
+use Rattle.std.proofs.Common.{◌≡◌, ℕ, All, zero, suc, ◌+◌, ◌/◌, ◌<◌, ◌≤◌, Bool, true, false, cond, nat_lt, List, [], ◌∷◌, ◌++◌, IsUtf8, inl, inr, refl, sym, ap, ◌∙◌, subst, arith, append_assoc}
+use Rattle.std.proofs.lemmas.Bool.{cases_eq, cases_lt, ne_eqb, le-ltb, lt-ltb}
 use Rattle.std.proofs.lemmas.Str.{encodes-chars, encode_ascii}
 use Rattle.std.specs.List.{flat_map}
 use Rattle.std.specs.Str.{chars}
 use lib.Utf8.{next, encode, encodes}
 use Rattle.json.specs.Print.{escape_byte, escape}
-use Rattle.reports.specs.JsonStrings.{json_char}
+use Rattle.reports.specs.JsonStrings.{is_plain, json_char}
 
 abbrev IsEscaped : ℕ → Type 0
 IsEscaped c = json_char c ≡ escape (encode c)
@@ -96,3 +96,33 @@ chars_are (c ∷ cs) = ap (λ (l : List ℕ). l ++ flat_map json_char cs) (char_
 -- The characters of a text as they stand in a string are the text's bytes, escaped.
 pub escaped_chars : (text : List ℕ) → IsUtf8 text → flat_map json_char (chars text) ≡ escape text
 escaped_chars text is = chars_are (chars text) ∙ ap escape (encodes-chars text is)
+
+-- a byte that stands in a string as it is
+plain_alone : (x : ℕ) (xs : List ℕ) → is_plain x ≡ true → escape (x ∷ xs) ≡ x ∷ escape xs
+plain_alone x xs is = elim (cases_eq x 34) [
+  | inl e ↦ absurd (no_quote (subst (λ (y : ℕ). is_plain y ≡ true) e is))
+  | inr q ↦ elim (cases_eq x 92) [
+    | inl e ↦ absurd (no_backslash (subst (λ (y : ℕ). is_plain y ≡ true) e is))
+    | inr b ↦ elim (cases_lt x 32) [
+      | inl low ↦ absurd (no_control (sym (not_plain q b low) ∙ is))
+      | inr l ↦ plain_byte x xs q b l
+    ]
+  ]
+]
+  where
+    no_control : false ≡ true → ⊥
+    no_control e = cc
+
+    no_quote : is_plain 34 ≡ true → ⊥
+    no_quote e = cc
+
+    no_backslash : is_plain 92 ≡ true → ⊥
+    no_backslash e = cc
+
+    not_plain : (x ≡ 34 → ⊥) → (x ≡ 92 → ⊥) → x < 32 → is_plain x ≡ false
+    not_plain q b low = rw (ne_eqb x 34 q, ne_eqb x 92 b, lt-ltb x 32 low) refl
+
+-- A text of such bytes is escaped as it is.
+pub plain_text : (text : List ℕ) → All (λ byte. is_plain byte ≡ true) text → escape text ≡ text
+plain_text [] plain = refl
+plain_text (x ∷ xs) plain = plain_alone x xs (plain 0 0 (omega arith)) ∙ ap (λ (l : List ℕ). x ∷ l) (plain_text xs (λ k d inside. plain (suc k) d (omega arith)))

@@ -1,6 +1,10 @@
 -- The characters of JSON's strings as they are written, for the clauses of private functions.
-use Rattle.std.specs.Prelude.{ℕ, ◌==◌, ◌/◌, ◌%◌, nat_lt, cond, List, ◌++◌, codes, encode_utf8}
+use Rattle.std.specs.Prelude.{ℕ, Bool, false, not, ◌==◌, ◌/◌, ◌%◌, nat_lt, cond, List, ◌++◌, codes, encode_utf8}
 use Rattle.std.specs.Char.{digit_char}
+
+-- whether a byte stands in a string as it is: not the quotation mark, not the backslash, and no control character
+abbrev pub is_plain : ℕ → Bool
+is_plain x = cond (x == 34) false (cond (x == 92) false (not (nat_lt x 32)))
 
 -- a control character by its number: `\u00` and two hexadecimal digits
 abbrev pub code_escape : ℕ → List ℕ

@@ -128,8 +128,8 @@ fn took_by(timings: &Timings, node: NodeId) -> Option<u64>
     }
 }
 
-/// Appends the line of an event.
-fn push_event(
+/// Appends the line of an event; of a finish it says how long the node took, if that is known.
+pub fn push_event(
     json: &mut String,
     plan: &Plan,
     texts: &Texts,

@@ -1,10 +1,10 @@
 //! Strings and members of JSON.
 
-ghost use Rattle.std.specs.Prelude.{◌≡◌, ◌<◌, ◌++◌, OnOk, codes, string_bytes, encode_utf8};
+ghost use Rattle.std.specs.Prelude.{◌≡◌, ◌<◌, ◌++◌, ◌↔◌, IsTrue, All, true, OnOk, codes, string_bytes, encode_utf8};
 ghost use Rattle.std.specs.Char.{digit_char};
 ghost use Rattle.std.specs.Fmt.{decimal};
 ghost use Rattle.json.specs.Print.{escape, quoted};
-ghost use Rattle.reports.specs.JsonStrings.{code_escape, json_char};
+ghost use Rattle.reports.specs.JsonStrings.{code_escape, is_plain, json_char};
 
 use std::alloc::AllocError;
 
@@ -47,14 +47,44 @@ fn push_char(json: &mut String, c: char) -> Result<(), AllocError>
     }
 }
 
-/// Appends the characters of a text as they stand in a string.
-fn push_escaped(json: &mut String, text: &str) -> Result<(), AllocError>
+/// Appends the characters of a text one by one, as they stand in a string.
+fn push_chars(json: &mut String, text: &str) -> Result<(), AllocError>
     ensures { OnOk result (string_bytes json.new ≡ string_bytes json.old ++ escape text.now) }
 {
     for c in text.chars() {
         push_char(json, c)?;
     }
     Ok(())
+}
+
+/// Whether a byte stands in a string as it is.
+fn is_plain(byte: u8) -> bool
+    ensures { result ≡ is_plain byte }
+{
+    if byte == b'"' {
+        return false;
+    }
+    if byte == b'\\' {
+        return false;
+    }
+    byte >= b' '
+}
+
+/// Whether each byte of a text stands in a string as it is.
+fn are_plain(text: &[u8]) -> bool
+    ensures { IsTrue result ↔ All (λ byte. is_plain byte ≡ true) text.now }
+{
+    text.iter().all(|byte| is_plain(*byte))
+}
+
+/// Appends a text as it stands in a string: at once, if none of it is escaped.
+fn push_escaped(json: &mut String, text: &str) -> Result<(), AllocError>
+    ensures { OnOk result (string_bytes json.new ≡ string_bytes json.old ++ escape text.now) }
+{
+    if are_plain(text.as_bytes()) {
+        return json.push_str(text);
+    }
+    push_chars(json, text)
 }
 
 /// Appends a text as a string.

@@ -8,7 +8,7 @@ mod nodes;
 mod plan_nodes;
 mod times;
 
-pub use json_lines::{json_text, push_note, timed_json_text};
+pub use json_lines::{json_text, push_event, push_note, timed_json_text};
 pub use list::list_text;
 pub use nodes::{id_of, kind_of, name_of, role_of, text_of};
 pub use plan_nodes::plan_text;

@@ -85,6 +85,22 @@ fn push_line(feed: &mut String, event: Event, id: &str, text: &str) -> Result<()
     feed.push_str("\n")
 }
 
+/// Appends the line of an event to a feed. Of a node that the plan lacks, no id is printed.
+pub fn push_feed_line(
+    feed: &mut String,
+    plan: &Plan,
+    texts: &Texts,
+    event: Event,
+) -> Result<(), AllocError>
+    ensures { OnOk result (string_bytes feed.new ≡ string_bytes feed.old
+        ++ event_line event (id_at plan.now event.node) (text_or (text_at texts.now event.node))) }
+{
+    let event = &event;
+    let id = id_of(plan, event.node);
+    let text = text_of(texts, event.node);
+    push_line(feed, *event, id, text)
+}
+
 /// The feed of these events: one line for each, in their order. Of a node that the plan lacks, no
 /// id is printed.
 pub fn feed_text(
@@ -97,12 +113,7 @@ pub fn feed_text(
 {
     let mut feed = String::new(alloc);
     for event in events {
-        push_line(
-            &mut feed,
-            *event,
-            id_of(plan, event.node),
-            text_of(texts, event.node),
-        )?;
+        push_feed_line(&mut feed, plan, texts, *event)?;
     }
     Ok(feed)
 }

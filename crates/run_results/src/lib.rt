@@ -14,7 +14,7 @@ mod to_writer;
 mod told;
 mod tree_drawing;
 
-pub use feed::feed_text;
+pub use feed::{feed_text, push_feed_line};
 pub use results::{Results, summary_text, tree_text};
 pub use summary::Summary;
 pub use theme::Theme;
